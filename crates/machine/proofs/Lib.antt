@@ -1,0 +1,5 @@
+pub mod Fibonacci
+pub mod Ride
+pub mod DocumentRides
+pub mod Files
+pub mod Rides

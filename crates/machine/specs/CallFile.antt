@@ -1,0 +1,106 @@
+-- THE CALL FILE AND ITS PROGRAM.
+use Prim.Native.Nat.{ℕ, zero, suc, _+_, _*_}
+use mathlib.Core.Bool.{Bool, true, false, _&&_, not}
+use mathlib.Core.List.{List, [], _∷_}
+use lib.Dec.{ltb, leb, eqb}
+use lib.ListN.{length, getD, take, drop, replicate}
+use Rattle.machine.specs.declared.Job.{Job}
+use Rattle.machine.specs.declared.Operation.{Operation}
+use Rattle.machine.specs.declared.Operation.the-variants.{LookUp, PutIn, TakeOut}
+use Rattle.machine.specs.declared.State.{State}
+use Rattle.machine.specs.declared.Figures.{Figures}
+use Rattle.machine.specs.declared.Answer.{Answer}
+use Rattle.machine.specs.declared.Answer.the-variants.{Accepted, BadRecord}
+use Rattle.machine.specs.declared.Call.{Call}
+use Rattle.machine.specs.declared.Call.the-variants.{Begin, Steps, Abandon, Tidy, Bad}
+use Rattle.machine.specs.Choice.{ifB}
+use Rattle.machine.specs.Answers.{numberOf, priceOf}
+use Rattle.machine.specs.Tasks.{freshState}
+use Rattle.machine.specs.Step.{Left, same, stepOf}
+use Rattle.machine.specs.Calls.{resetOf, beginOf, abandonOf, tidyOf, figuresOf, Report}
+
+-- "Records of 12 bytes": "operation .., task, count as two bytes, fare number and price as four bytes each, low byte first"
+abbrev pub byte : List ℕ → ℕ → ℕ
+byte b i = getD b i 0
+
+unfoldable pub two : List ℕ → ℕ → ℕ
+two b i = byte b i + 256 * byte b (i + 1)
+
+unfoldable pub four : List ℕ → ℕ → ℕ
+four b i = byte b i + 256 * byte b (i + 1) + 65536 * byte b (i + 2) + 16777216 * byte b (i + 3)
+
+abbrev pub countOf : List ℕ → ℕ
+countOf b = two b 2
+
+abbrev pub jobOf : List ℕ → Job
+jobOf b = record { number = four b 4; price = four b 8 }
+
+-- "every unused field is zero (4 to 6 use no fare number or price, 6 no task)"
+unfoldable pub noJob : List ℕ → Bool
+noJob b = eqb (four b 4) 0 && eqb (four b 8) 0
+
+unfoldable pub begins : List ℕ → Operation → Call
+begins b o = ifB (eqb (countOf b) 0) (Begin o (byte b 1) (jobOf b)) Bad
+
+unfoldable pub steps : List ℕ → Call
+steps b = ifB (not (eqb (countOf b) 0) && noJob b) (Steps (byte b 1) (countOf b)) Bad
+
+unfoldable pub abandons : List ℕ → Call
+abandons b = ifB (eqb (countOf b) 0 && noJob b) (Abandon (byte b 1)) Bad
+
+unfoldable pub tidies : List ℕ → Call
+tidies b = ifB (eqb (byte b 1) 0 && (eqb (countOf b) 0 && noJob b)) Tidy Bad
+
+-- "operation (1 look up, 2 put in, 3 take out, 4 step, 5 abandon, 6 tidy)"; else 19
+unfoldable pub byOperation : ℕ → List ℕ → Call
+byOperation o b =
+    ifB (eqb o 1) (begins b LookUp)
+    (ifB (eqb o 2) (begins b PutIn)
+    (ifB (eqb o 3) (begins b TakeOut)
+    (ifB (eqb o 4) (steps b)
+    (ifB (eqb o 5) (abandons b)
+    (ifB (eqb o 6) (tidies b) Bad)))))
+
+-- "or for a short last record, 19"
+unfoldable pub decode : List ℕ → Call
+decode b = ifB (ltb (length b) 12) Bad (byOperation (byte b 0) b)
+
+-- "Operation 4 steps until the count is spent, the task is idle or a refusal comes, and answers as the last step.":
+-- a step that answers 0 leaves the task busy, every other answer ends it or refuses
+unfoldable pub runOf : ℕ → List ℕ → State → ℕ → Left
+runOf zero t st i = same t st Accepted
+runOf (suc c) t st i =
+    let l = stepOf t st i in
+    elim (eqb (numberOf (l .answer)) 0 && not (eqb c 0)) [ true ↦ runOf c (l .table) (l .state) i | false ↦ l ]
+
+unfoldable pub serve : List ℕ → State → Call → Left
+serve t st (Begin o i j) = beginOf t st i o j
+serve t st (Steps i c) = runOf c t st i
+serve t st (Abandon i) = abandonOf t st i
+serve t st Tidy = tidyOf t st
+serve t st Bad = same t st BadRecord
+
+-- "prints per record: its place from 1, operation, task, answer, price; for a short last record operation and task print as 0"
+unfoldable pub printed : ℕ → List ℕ → ℕ
+printed i b = ifB (ltb (length b) 12) 0 (byte b i)
+
+unfoldable pub lineOf : ℕ → List ℕ → Answer → List ℕ
+lineOf p b a = p ∷ printed 0 b ∷ printed 1 b ∷ numberOf a ∷ priceOf a ∷ []
+
+-- "The last line: end, height, level records, c, m, fares, free slots, allowed rank."
+unfoldable pub endLine : Figures → List ℕ
+endLine f = f .height ∷ f .level ∷ f .c ∷ f .m ∷ f .fares ∷ f .free ∷ f .allowed ∷ []
+
+-- all lines of an input, from place p on; gas: no more records than bytes
+unfoldable pub linesFrom : ℕ → ℕ → List ℕ → State → List ℕ → List (List ℕ)
+linesFrom zero p t st bs = endLine (figuresOf t st .figures) ∷ []
+linesFrom (suc g) p t st bs =
+    elim (eqb (length bs) 0) [ true ↦ endLine (figuresOf t st .figures) ∷ [] | false ↦
+    let l = serve t st (decode (take 12 bs)) in
+    lineOf p (take 12 bs) (l .answer) ∷ linesFrom g (p + 1) (l .table) (l .state) (drop 12 bs) ]
+
+-- "The program reads standard input, has 64 slots, resets them and prints per record"
+unfoldable pub programOf : List ℕ → List (List ℕ)
+programOf bs =
+    let l = resetOf (replicate 384 0) freshState in
+    linesFrom (length bs) 1 (l .table) (l .state) bs

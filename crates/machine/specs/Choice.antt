@@ -1,0 +1,7 @@
+-- A choice by a test. It is shut, so that a goal shows the choice.
+use mathlib.Core.Path.{_≡_, refl}
+use mathlib.Core.Bool.{Bool, true, false}
+
+unfoldable pub ifB {ℓ} : {A : Type ℓ} → Bool → A → A → A
+ifB true x y = x
+ifB false x y = y

@@ -1,0 +1,16 @@
+pub mod Choice
+pub mod Record
+pub mod Table
+pub mod Answers
+pub mod Tasks
+pub mod Walk
+pub mod Commit
+pub mod PutIn
+pub mod TakeOut
+pub mod Rows
+pub mod Settling
+pub mod Step
+pub mod Reach
+pub mod Allowed
+pub mod Calls
+pub mod CallFile

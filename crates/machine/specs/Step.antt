@@ -1,0 +1,91 @@
+-- STEP: the refusals in their order, then what the task's phase asks for.
+use Prim.Native.Nat.{ℕ, _+_, _/_}
+use mathlib.Core.Bool.{Bool, true, false, _&&_, not}
+use mathlib.Core.List.{List}
+use lib.Dec.{ltb}
+use lib.ListN.{length, set}
+use Rattle.machine.specs.declared.Job.{Job}
+use Rattle.machine.specs.declared.Phase.{Phase}
+use Rattle.machine.specs.declared.Phase.the-variants.{Start, Walk, PuttingIn, TakingOut, Settling}
+use Rattle.machine.specs.declared.Work.{Work}
+use Rattle.machine.specs.declared.Work.the-variants.{Idle, Busy}
+use Rattle.machine.specs.declared.State.{State}
+use Rattle.machine.specs.declared.Answer.{Answer}
+use Rattle.machine.specs.declared.Answer.the-variants.{Accepted, Found, NotHeld, PutSettled, HeldAlready, TakenOut, PutUnsettled, TaskNumber, OutOfRange, TaskBusy, TaskIdle, SomeBusy, NoRoom, Limit, Damaged, Length, BadRecord}
+use Rattle.machine.specs.declared.Turn.{Turn}
+use Rattle.machine.specs.declared.Turn.the-variants.{Hurt, Next, Done}
+use Rattle.machine.specs.Choice.{ifB}
+use Rattle.machine.specs.Table.{View, view, puts, lengthFits, slots}
+use Rattle.machine.specs.Tasks.{idleTask, taskAt, noGrand, one, sound, jobFits}
+use Rattle.machine.specs.Walk.{walkFrom}
+use Rattle.machine.specs.Commit.{Did, calm}
+use Rattle.machine.specs.PutIn.{putStep}
+use Rattle.machine.specs.TakeOut.{takeStep}
+use Rattle.machine.specs.Settling.{settleStep}
+
+-- what is left of a call
+pub record Left : Type 0 where
+  pub table : List ℕ
+  pub state : State
+  pub answer : Answer
+
+-- "same: nothing changed"
+abbrev pub same : List ℕ → State → Answer → Left
+same t st a = record { table = t; state = st; answer = a }
+
+-- "first the entry's left, then the link on the sought side"; then as the phase says. m: put-ins committed so far
+unfoldable pub phaseStep : View → ℕ → ℕ → Job → Phase → Did
+phaseStep v n m j (Start g) = calm (walkFrom v n g j noGrand 0)
+phaseStep v n m j (Walk g q) = calm (walkFrom v n g j (q .parent) (q .here))
+phaseStep v n m j (PuttingIn q s) = putStep v n m j q s
+phaseStep v n m j (TakingOut q s) = takeStep v n j q s
+phaseStep v n m j (Settling q s) = settleStep v n j q s
+
+-- 6: "task idle, u one more"
+abbrev pub unsettled : Answer → Bool
+unsettled Accepted = false
+unsettled (Found p) = false
+unsettled NotHeld = false
+unsettled PutSettled = false
+unsettled HeldAlready = false
+unsettled TakenOut = false
+unsettled PutUnsettled = true
+unsettled TaskNumber = false
+unsettled OutOfRange = false
+unsettled TaskBusy = false
+unsettled TaskIdle = false
+unsettled SomeBusy = false
+unsettled NoRoom = false
+unsettled Limit = false
+unsettled Damaged = false
+unsettled Length = false
+unsettled BadRecord = false
+
+-- the state after a turn of task i; `committed`: m is one more
+abbrev pub turned : State → ℕ → Turn → Bool → State
+turned st i Hurt c = st
+turned st i (Next k) c = record { tasks = set (st .tasks) i k; m = st .m + one c; u = st .u }
+turned st i (Done a) c = record { tasks = set (st .tasks) i idleTask; m = st .m + one c; u = st .u + one (unsettled a) }
+
+abbrev pub answered : Turn → Answer
+answered Hurt = Damaged
+answered (Next k) = Accepted
+answered (Done a) = a
+
+-- what the step does is carried out
+unfoldable pub carried : List ℕ → State → ℕ → Did → Left
+carried t st i d =
+    record { table = puts t (d .writes); state = turned st i (d .turn) (d .committed); answer = answered (d .turn) }
+
+-- 13, then 17 of the state and of the task's number and price
+unfoldable pub stepWork : List ℕ → State → ℕ → Work → Left
+stepWork t st i Idle = same t st TaskIdle
+stepWork t st i (Busy j f) =
+    ifB (not (sound st && jobFits j)) (same t st Damaged)
+    (carried t st i (phaseStep (view (slots t) t) (slots t) (st .m) j f))
+
+unfoldable pub stepOf : List ℕ → State → ℕ → Left
+stepOf t st i =
+    ifB (not (lengthFits (length t))) (same t st Length)
+    (ifB (ltb 7 i) (same t st TaskNumber)
+    (stepWork t st i (taskAt st i .work)))
