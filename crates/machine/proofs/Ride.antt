@@ -1,13 +1,13 @@
 -- What a ride is: calls with their answers and step counts, damage from outside, and what is left after it.
 use Prim.Native.Nat.{ℕ}
 use mathlib.Core.List.{List}
-use Rattle.machine.specs.declared.Rec.{Rec}
-use Rattle.machine.specs.declared.Links.{Links}
-use Rattle.machine.specs.declared.Path.{Path}
-use Rattle.machine.specs.declared.Operation.{Operation}
-use Rattle.machine.specs.declared.Phase.{Phase}
-use Rattle.machine.specs.declared.Work.the-variants.{Busy}
-use Rattle.machine.specs.declared.Task.{Task}
+use Rattle.types.specs.declared.Rec.{Rec}
+use Rattle.types.specs.declared.Links.{Links}
+use Rattle.types.specs.declared.Path.{Path}
+use Rattle.types.specs.declared.Operation.{Operation}
+use Rattle.types.specs.declared.Phase.{Phase}
+use Rattle.types.specs.declared.Work.the-variants.{Busy}
+use Rattle.types.specs.declared.Task.{Task}
 
 -- where a ride starts: a reset of so many slots, the end of the ride before, or the start of the ride before
 pub data From : Type 0 where

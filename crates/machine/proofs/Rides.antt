@@ -5,33 +5,34 @@ use mathlib.Core.Bool.{Bool, true, false, _&&_, _||_, not}
 use mathlib.Core.List.{List, [], _∷_, _++_}
 use lib.Dec.{ltb, leb, eqb}
 use lib.ListN.{length, getD, set, take, drop, replicate}
-use Rattle.machine.specs.declared.Rec.{Rec}
-use Rattle.machine.specs.declared.Links.{Links}
-use Rattle.machine.specs.declared.Path.{Path}
-use Rattle.machine.specs.declared.Job.{Job}
-use Rattle.machine.specs.declared.Operation.{Operation}
-use Rattle.machine.specs.declared.Operation.the-variants.{LookUp, PutIn, TakeOut}
-use Rattle.machine.specs.declared.Goal.{Goal}
-use Rattle.machine.specs.declared.Goal.the-variants.{Serve, Settle}
-use Rattle.machine.specs.declared.PutStage.{PutStage}
-use Rattle.machine.specs.declared.PutStage.the-variants.{PutParent, PutLeaf, PutCommit}
-use Rattle.machine.specs.declared.TakeStage.{TakeStage}
-use Rattle.machine.specs.declared.TakeStage.the-variants.{TakeGrand, TakeParent, TakeLeft, TakeRight, TakeCommit}
-use Rattle.machine.specs.declared.SettleStage.{SettleStage}
-use Rattle.machine.specs.declared.SettleStage.the-variants.{SettleGrand, SettleParent, SettleChoose, SettleRotate, SettleDouble}
-use Rattle.machine.specs.declared.Phase.{Phase}
-use Rattle.machine.specs.declared.Phase.the-variants.{Start, Walk, PuttingIn, TakingOut, Settling}
-use Rattle.machine.specs.declared.Work.{Work}
-use Rattle.machine.specs.declared.Work.the-variants.{Idle, Busy}
-use Rattle.machine.specs.declared.Task.{Task}
-use Rattle.machine.specs.declared.State.{State}
-use Rattle.machine.specs.declared.Figures.{Figures}
-use Rattle.machine.specs.declared.Answer.{Answer}
+use Rattle.types.specs.declared.Rec.{Rec}
+use Rattle.types.specs.declared.Links.{Links}
+use Rattle.types.specs.declared.Path.{Path}
+use Rattle.types.specs.declared.Job.{Job}
+use Rattle.types.specs.declared.Operation.{Operation}
+use Rattle.types.specs.declared.Operation.the-variants.{LookUp, PutIn, TakeOut}
+use Rattle.types.specs.declared.Goal.{Goal}
+use Rattle.types.specs.declared.Goal.the-variants.{Serve, Settle}
+use Rattle.types.specs.declared.PutStage.{PutStage}
+use Rattle.types.specs.declared.PutStage.the-variants.{PutParent, PutLeaf, PutCommit}
+use Rattle.types.specs.declared.TakeStage.{TakeStage}
+use Rattle.types.specs.declared.TakeStage.the-variants.{TakeGrand, TakeParent, TakeLeft, TakeRight, TakeCommit}
+use Rattle.types.specs.declared.SettleStage.{SettleStage}
+use Rattle.types.specs.declared.SettleStage.the-variants.{SettleGrand, SettleParent, SettleChoose, SettleRotate, SettleDouble}
+use Rattle.types.specs.declared.Phase.{Phase}
+use Rattle.types.specs.declared.Phase.the-variants.{Start, Walk, PuttingIn, TakingOut, Settling}
+use Rattle.types.specs.declared.Work.{Work}
+use Rattle.types.specs.declared.Work.the-variants.{Idle, Busy}
+use Rattle.types.specs.declared.Task.{Task}
+use Rattle.types.specs.declared.State.{State}
+use Rattle.types.specs.declared.Figures.{Figures}
+use Rattle.types.specs.declared.Answer.{Answer}
 use Rattle.machine.specs.Choice.{ifB}
 use Rattle.machine.specs.Record.{inTree, sentinel, numberFits, priceFits, fareMarks, innerMarks, isLink, isLeaf, isInner, plainForm, entryForm, wellFormed, linked, level, isFare, leads, still}
 use Rattle.machine.specs.Table.{View, view, Write, fill, lead, off, place, slots, countFree, lengthFits, put, puts, freeFrom, free, slot1, slot2, slot3}
 use Rattle.machine.specs.Answers.{numberOf, priceOf}
-use Rattle.machine.specs.Tasks.{idleTask, taskAt, withTask, isBusy, freshState, settling, busyTasks, countOpen, sound, jobFits, askFits}
+use Rattle.types.specs.Task.{idleTask, isBusy}
+use Rattle.machine.specs.State.{taskAt, withTask, freshState, settling, busyTasks, countOpen, sound, jobFits, askFits}
 use Rattle.machine.specs.Walk.{sought, atLeaf, serveArrival, outranks, settleArrival, arrival, walkTo, walkFrom}
 use Rattle.machine.specs.Commit.{Did, reading, commitIf}
 use Rattle.machine.specs.PutIn.{leafOf, innerRank, putGrounds, putTest, putWrites, putTurn, putRoom, putLimit, putCommit, readPutParent, readPutLeaf, putStep}

@@ -4,18 +4,18 @@ use mathlib.Core.Bool.{Bool, true, false, _&&_, not}
 use mathlib.Core.List.{List, [], _∷_}
 use lib.Dec.{ltb, leb, eqb}
 use lib.ListN.{length, getD, take, drop, replicate}
-use Rattle.machine.specs.declared.Job.{Job}
-use Rattle.machine.specs.declared.Operation.{Operation}
-use Rattle.machine.specs.declared.Operation.the-variants.{LookUp, PutIn, TakeOut}
-use Rattle.machine.specs.declared.State.{State}
-use Rattle.machine.specs.declared.Figures.{Figures}
-use Rattle.machine.specs.declared.Answer.{Answer}
-use Rattle.machine.specs.declared.Answer.the-variants.{Accepted, BadRecord}
-use Rattle.machine.specs.declared.Call.{Call}
-use Rattle.machine.specs.declared.Call.the-variants.{Begin, Steps, Abandon, Tidy, Bad}
+use Rattle.types.specs.declared.Job.{Job}
+use Rattle.types.specs.declared.Operation.{Operation}
+use Rattle.types.specs.declared.Operation.the-variants.{LookUp, PutIn, TakeOut}
+use Rattle.types.specs.declared.State.{State}
+use Rattle.types.specs.declared.Figures.{Figures}
+use Rattle.types.specs.declared.Answer.{Answer}
+use Rattle.types.specs.declared.Answer.the-variants.{Accepted, BadRecord}
+use Rattle.types.specs.declared.Call.{Call}
+use Rattle.types.specs.declared.Call.the-variants.{Begin, Steps, Abandon, Tidy, Bad}
 use Rattle.machine.specs.Choice.{ifB}
 use Rattle.machine.specs.Answers.{numberOf, priceOf}
-use Rattle.machine.specs.Tasks.{freshState}
+use Rattle.machine.specs.State.{freshState}
 use Rattle.machine.specs.Step.{Left, same, stepOf}
 use Rattle.machine.specs.Calls.{resetOf, beginOf, abandonOf, tidyOf, figuresOf, Report}
 

@@ -4,18 +4,19 @@ use mathlib.Core.Bool.{Bool, true, false, _&&_, not}
 use mathlib.Core.List.{List, [], _∷_, _++_}
 use lib.Dec.{ltb, leb, eqb}
 use lib.ListN.{length, getD, drop, replicate, set}
-use Rattle.machine.specs.declared.Rec.{Rec}
-use Rattle.machine.specs.declared.Job.{Job}
-use Rattle.machine.specs.declared.Operation.{Operation}
-use Rattle.machine.specs.declared.Work.{Work}
-use Rattle.machine.specs.declared.State.{State}
-use Rattle.machine.specs.declared.Figures.{Figures}
-use Rattle.machine.specs.declared.Answer.{Answer}
-use Rattle.machine.specs.declared.Answer.the-variants.{Accepted, PutUnsettled, TaskNumber, OutOfRange, TaskBusy, TaskIdle, SomeBusy, NoRoom, Damaged, Length}
+use Rattle.types.specs.declared.Rec.{Rec}
+use Rattle.types.specs.declared.Job.{Job}
+use Rattle.types.specs.declared.Operation.{Operation}
+use Rattle.types.specs.declared.Work.{Work}
+use Rattle.types.specs.declared.State.{State}
+use Rattle.types.specs.declared.Figures.{Figures}
+use Rattle.types.specs.declared.Answer.{Answer}
+use Rattle.types.specs.declared.Answer.the-variants.{Accepted, PutUnsettled, TaskNumber, OutOfRange, TaskBusy, TaskIdle, SomeBusy, NoRoom, Damaged, Length}
 use Rattle.machine.specs.Choice.{ifB}
 use Rattle.machine.specs.Record.{topNumber, freeRec}
 use Rattle.machine.specs.Table.{View, view, Write, fill, puts, lengthFits, slots, countFree}
-use Rattle.machine.specs.Tasks.{idleTask, taskAt, withTask, begun, abandoned, isBusy, workSettles, one, busyTasks, countOpen, sound, askFits, freshState}
+use Rattle.types.specs.Task.{idleTask, begun, abandoned, isBusy, workSettles}
+use Rattle.machine.specs.State.{taskAt, withTask, one, busyTasks, countOpen, sound, askFits, freshState}
 use Rattle.machine.specs.PutIn.{leafOf, innerOf}
 use Rattle.machine.specs.Step.{Left, same}
 use Rattle.machine.specs.Reach.{Tree, Reached, hurt, reached, reach, levels, countFares, fareList, heightOf}

@@ -2,7 +2,7 @@ pub mod Choice
 pub mod Record
 pub mod Table
 pub mod Answers
-pub mod Tasks
+pub mod State
 pub mod Walk
 pub mod Commit
 pub mod PutIn

@@ -4,11 +4,11 @@ use mathlib.Core.Bool.{Bool, true, false, _&&_, not}
 use mathlib.Core.List.{List, [], _∷_, _++_}
 use lib.Dec.{leb, eqb}
 use lib.ListN.{getD, set, replicate}
-use Rattle.machine.specs.declared.Rec.{Rec}
+use Rattle.types.specs.declared.Rec.{Rec}
 use Rattle.machine.specs.Choice.{ifB}
 use Rattle.machine.specs.Record.{wellFormed, linked, inTree, isLeaf, isFare, level}
 use Rattle.machine.specs.Table.{View}
-use Rattle.machine.specs.Tasks.{one}
+use Rattle.machine.specs.State.{one}
 
 -- a slot, its record and what hangs below it
 pub data Tree : Type 0 where

@@ -2,8 +2,8 @@
 use Prim.Native.Nat.{ℕ}
 use mathlib.Core.Bool.{Bool, true, false, _&&_, _||_, not}
 use lib.Dec.{ltb, leb, eqb}
-use Rattle.machine.specs.declared.Rec.{Rec}
-use Rattle.machine.specs.declared.Links.{Links}
+use Rattle.types.specs.declared.Rec.{Rec}
+use Rattle.types.specs.declared.Links.{Links}
 
 -- "Sentinels carry number 4,294,967,295": it stands above every fare number
 abbrev pub topNumber : ℕ

@@ -3,16 +3,16 @@ use Prim.Native.Nat.{ℕ, _+_, _-_}
 use mathlib.Core.Bool.{Bool, true, false, _&&_, _||_, not}
 use mathlib.Core.List.{List, [], _∷_}
 use lib.Dec.{ltb, leb, eqb}
-use Rattle.machine.specs.declared.Rec.{Rec}
-use Rattle.machine.specs.declared.Links.{Links}
-use Rattle.machine.specs.declared.Path.{Path}
-use Rattle.machine.specs.declared.ParentRow.{ParentRow}
-use Rattle.machine.specs.declared.ParentRow.the-variants.{Outranked, Promote, Wider}
-use Rattle.machine.specs.declared.LevelRow.{LevelRow}
-use Rattle.machine.specs.declared.LevelRow.the-variants.{NoRow, RotateOne, RotateTwo, DoubleRotation}
+use Rattle.types.specs.declared.Rec.{Rec}
+use Rattle.types.specs.declared.Links.{Links}
+use Rattle.types.specs.declared.Path.{Path}
+use Rattle.types.specs.declared.ParentRow.{ParentRow}
+use Rattle.types.specs.declared.ParentRow.the-variants.{Outranked, Promote, Wider}
+use Rattle.types.specs.declared.LevelRow.{LevelRow}
+use Rattle.types.specs.declared.LevelRow.the-variants.{NoRow, RotateOne, RotateTwo, DoubleRotation}
 use Rattle.machine.specs.Choice.{ifB}
 use Rattle.machine.specs.Table.{Write, fill, lead, off}
-use Rattle.machine.specs.declared.Around.{Around}
+use Rattle.types.specs.declared.Around.{Around}
 use Rattle.machine.specs.PutIn.{innerOf}
 use Rattle.machine.specs.TakeOut.{other}
 

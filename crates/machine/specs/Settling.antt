@@ -3,28 +3,28 @@ use Prim.Native.Nat.{ℕ, _+_, _-_}
 use mathlib.Core.Bool.{Bool, true, false, _&&_, not}
 use mathlib.Core.List.{List, [], _∷_}
 use lib.Dec.{ltb, leb, eqb}
-use Rattle.machine.specs.declared.Rec.{Rec}
-use Rattle.machine.specs.declared.Links.{Links}
-use Rattle.machine.specs.declared.Path.{Path}
-use Rattle.machine.specs.declared.Job.{Job}
-use Rattle.machine.specs.declared.Goal.the-variants.{Settle}
-use Rattle.machine.specs.declared.SettleStage.{SettleStage}
-use Rattle.machine.specs.declared.SettleStage.the-variants.{SettleGrand, SettleParent, SettleChoose, SettleRotate, SettleDouble}
-use Rattle.machine.specs.declared.Phase.the-variants.{Start, Settling}
-use Rattle.machine.specs.declared.Answer.the-variants.{PutUnsettled}
-use Rattle.machine.specs.declared.Turn.{Turn}
-use Rattle.machine.specs.declared.Turn.the-variants.{Hurt, Next, Done}
-use Rattle.machine.specs.declared.ParentRow.{ParentRow}
-use Rattle.machine.specs.declared.ParentRow.the-variants.{Outranked, Promote, Wider}
-use Rattle.machine.specs.declared.LevelRow.{LevelRow}
-use Rattle.machine.specs.declared.LevelRow.the-variants.{NoRow, RotateOne, RotateTwo, DoubleRotation}
+use Rattle.types.specs.declared.Rec.{Rec}
+use Rattle.types.specs.declared.Links.{Links}
+use Rattle.types.specs.declared.Path.{Path}
+use Rattle.types.specs.declared.Job.{Job}
+use Rattle.types.specs.declared.Goal.the-variants.{Settle}
+use Rattle.types.specs.declared.SettleStage.{SettleStage}
+use Rattle.types.specs.declared.SettleStage.the-variants.{SettleGrand, SettleParent, SettleChoose, SettleRotate, SettleDouble}
+use Rattle.types.specs.declared.Phase.the-variants.{Start, Settling}
+use Rattle.types.specs.declared.Answer.the-variants.{PutUnsettled}
+use Rattle.types.specs.declared.Turn.{Turn}
+use Rattle.types.specs.declared.Turn.the-variants.{Hurt, Next, Done}
+use Rattle.types.specs.declared.ParentRow.{ParentRow}
+use Rattle.types.specs.declared.ParentRow.the-variants.{Outranked, Promote, Wider}
+use Rattle.types.specs.declared.LevelRow.{LevelRow}
+use Rattle.types.specs.declared.LevelRow.the-variants.{NoRow, RotateOne, RotateTwo, DoubleRotation}
 use Rattle.machine.specs.Choice.{ifB}
 use Rattle.machine.specs.Record.{wellFormed, linked, inTree, leads, linksOf, still, level}
 use Rattle.machine.specs.Table.{View, Write, slot1, slot2, slot3}
-use Rattle.machine.specs.Tasks.{busy}
+use Rattle.types.specs.Task.{busy}
 use Rattle.machine.specs.Commit.{reading, Did, calm, commitIf}
 use Rattle.machine.specs.TakeOut.{other}
-use Rattle.machine.specs.declared.Around.{Around}
+use Rattle.types.specs.declared.Around.{Around}
 use Rattle.machine.specs.Rows.{parentRow, levelRow, aroundOf, promoteWrites, rotateWrites, doubleWrites}
 
 -- "it reads pz (grandparent), z (parent) and, for a rotation, x (the level record), each a step in this order"; "also reads y, last"

@@ -4,19 +4,20 @@ use mathlib.Core.Bool.{Bool, true, false, _&&_, not}
 use mathlib.Core.List.{List}
 use lib.Dec.{ltb}
 use lib.ListN.{length, set}
-use Rattle.machine.specs.declared.Job.{Job}
-use Rattle.machine.specs.declared.Phase.{Phase}
-use Rattle.machine.specs.declared.Phase.the-variants.{Start, Walk, PuttingIn, TakingOut, Settling}
-use Rattle.machine.specs.declared.Work.{Work}
-use Rattle.machine.specs.declared.Work.the-variants.{Idle, Busy}
-use Rattle.machine.specs.declared.State.{State}
-use Rattle.machine.specs.declared.Answer.{Answer}
-use Rattle.machine.specs.declared.Answer.the-variants.{Accepted, Found, NotHeld, PutSettled, HeldAlready, TakenOut, PutUnsettled, TaskNumber, OutOfRange, TaskBusy, TaskIdle, SomeBusy, NoRoom, Limit, Damaged, Length, BadRecord}
-use Rattle.machine.specs.declared.Turn.{Turn}
-use Rattle.machine.specs.declared.Turn.the-variants.{Hurt, Next, Done}
+use Rattle.types.specs.declared.Job.{Job}
+use Rattle.types.specs.declared.Phase.{Phase}
+use Rattle.types.specs.declared.Phase.the-variants.{Start, Walk, PuttingIn, TakingOut, Settling}
+use Rattle.types.specs.declared.Work.{Work}
+use Rattle.types.specs.declared.Work.the-variants.{Idle, Busy}
+use Rattle.types.specs.declared.State.{State}
+use Rattle.types.specs.declared.Answer.{Answer}
+use Rattle.types.specs.declared.Answer.the-variants.{Accepted, Found, NotHeld, PutSettled, HeldAlready, TakenOut, PutUnsettled, TaskNumber, OutOfRange, TaskBusy, TaskIdle, SomeBusy, NoRoom, Limit, Damaged, Length, BadRecord}
+use Rattle.types.specs.declared.Turn.{Turn}
+use Rattle.types.specs.declared.Turn.the-variants.{Hurt, Next, Done}
 use Rattle.machine.specs.Choice.{ifB}
 use Rattle.machine.specs.Table.{View, view, puts, lengthFits, slots}
-use Rattle.machine.specs.Tasks.{idleTask, taskAt, noGrand, one, sound, jobFits}
+use Rattle.types.specs.Task.{idleTask, noGrand}
+use Rattle.machine.specs.State.{taskAt, one, sound, jobFits}
 use Rattle.machine.specs.Walk.{walkFrom}
 use Rattle.machine.specs.Commit.{Did, calm}
 use Rattle.machine.specs.PutIn.{putStep}

@@ -2,24 +2,24 @@
 use Prim.Native.Nat.{ℕ}
 use mathlib.Core.Bool.{Bool, true, false, not}
 use lib.Dec.{ltb, eqb}
-use Rattle.machine.specs.declared.Rec.{Rec}
-use Rattle.machine.specs.declared.Path.{Path}
-use Rattle.machine.specs.declared.Job.{Job}
-use Rattle.machine.specs.declared.Turn.{Turn}
-use Rattle.machine.specs.declared.Turn.the-variants.{Hurt, Next, Done}
-use Rattle.machine.specs.declared.Operation.{Operation}
-use Rattle.machine.specs.declared.Operation.the-variants.{LookUp, PutIn, TakeOut}
-use Rattle.machine.specs.declared.Goal.{Goal}
-use Rattle.machine.specs.declared.Goal.the-variants.{Serve, Settle}
-use Rattle.machine.specs.declared.PutStage.the-variants.{PutParent}
-use Rattle.machine.specs.declared.TakeStage.the-variants.{TakeGrand}
-use Rattle.machine.specs.declared.SettleStage.the-variants.{SettleGrand}
-use Rattle.machine.specs.declared.Phase.the-variants.{Walk, PuttingIn, TakingOut, Settling}
-use Rattle.machine.specs.declared.Answer.the-variants.{Found, NotHeld, PutSettled, HeldAlready}
+use Rattle.types.specs.declared.Rec.{Rec}
+use Rattle.types.specs.declared.Path.{Path}
+use Rattle.types.specs.declared.Job.{Job}
+use Rattle.types.specs.declared.Turn.{Turn}
+use Rattle.types.specs.declared.Turn.the-variants.{Hurt, Next, Done}
+use Rattle.types.specs.declared.Operation.{Operation}
+use Rattle.types.specs.declared.Operation.the-variants.{LookUp, PutIn, TakeOut}
+use Rattle.types.specs.declared.Goal.{Goal}
+use Rattle.types.specs.declared.Goal.the-variants.{Serve, Settle}
+use Rattle.types.specs.declared.PutStage.the-variants.{PutParent}
+use Rattle.types.specs.declared.TakeStage.the-variants.{TakeGrand}
+use Rattle.types.specs.declared.SettleStage.the-variants.{SettleGrand}
+use Rattle.types.specs.declared.Phase.the-variants.{Walk, PuttingIn, TakingOut, Settling}
+use Rattle.types.specs.declared.Answer.the-variants.{Found, NotHeld, PutSettled, HeldAlready}
 use Rattle.machine.specs.Choice.{ifB}
 use Rattle.machine.specs.Record.{wellFormed, linked, isLeaf, level}
 use Rattle.machine.specs.Table.{View}
-use Rattle.machine.specs.Tasks.{busy}
+use Rattle.types.specs.Task.{busy}
 
 -- "A search goes left if the number sought is below the record's number, otherwise right."
 unfoldable pub sought : ℕ → Rec → ℕ
