@@ -1,4 +1,8 @@
 pub mod Fibonacci
+pub mod Choice
+pub mod Scan
+pub mod Writes
+pub mod Tests
 pub mod Ride
 pub mod DocumentRides
 pub mod Files

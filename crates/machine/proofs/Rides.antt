@@ -42,7 +42,7 @@ use Rattle.machine.specs.Settling.{readGrand, readParent, readOn, ground
 use Rattle.machine.specs.Step.{Left, phaseStep, stepOf, carried, stepWork}
 use Rattle.machine.specs.Reach.{reachable, reachFrom, reach, larger, deeper}
 use Rattle.machine.specs.Allowed.{fibonacci, atMost, allowedRank}
-use Rattle.machine.specs.Calls.{resetOf, beginOf, abandonOf, tidyOf, figuresOf, listOf, Report, Listed, emptyTable, abandonWork, sweep, tidyReached, figuresReached, listReached}
+use Rattle.machine.specs.Calls.{resetOf, beginOf, abandonOf, tidyOf, figuresOf, listOf, Listed, emptyTable, abandonWork, sweep, tidyReached, figuresReached, listReached}
 use Rattle.machine.specs.CallFile.{two, four, noJob, begins, steps as stepsRecord, abandons, tidies, byOperation, decode, runOf, serve, printed, lineOf, endLine, linesFrom, programOf}
 use Rattle.machine.proofs.Ride.{From, anew, onward, beside, Act, begin, step, abandon, tidy, figures, list, Hurting, field, m-is, u-is, length-is, task-is, Line, call, damage, Outcome, After, same, left, Ride, busy}
 use Rattle.machine.proofs.DocumentRides.{documentRides}

@@ -17,7 +17,7 @@ use Rattle.machine.specs.Choice.{ifB}
 use Rattle.machine.specs.Answers.{numberOf, priceOf}
 use Rattle.machine.specs.State.{freshState}
 use Rattle.machine.specs.Step.{Left, same, stepOf}
-use Rattle.machine.specs.Calls.{resetOf, beginOf, abandonOf, tidyOf, figuresOf, Report}
+use Rattle.machine.specs.Calls.{resetOf, beginOf, abandonOf, tidyOf, figuresOf}
 
 -- "Records of 12 bytes": "operation .., task, count as two bytes, fare number and price as four bytes each, low byte first"
 abbrev pub byte : List ℕ → ℕ → ℕ

@@ -10,6 +10,7 @@ use Rattle.types.specs.declared.Operation.{Operation}
 use Rattle.types.specs.declared.Work.{Work}
 use Rattle.types.specs.declared.State.{State}
 use Rattle.types.specs.declared.Figures.{Figures}
+use Rattle.types.specs.declared.Report.{Report}
 use Rattle.types.specs.declared.Answer.{Answer}
 use Rattle.types.specs.declared.Answer.the-variants.{Accepted, PutUnsettled, TaskNumber, OutOfRange, TaskBusy, TaskIdle, SomeBusy, NoRoom, Damaged, Length}
 use Rattle.machine.specs.Choice.{ifB}
@@ -77,17 +78,14 @@ tidyOf t st =
     (ifB (not (sound st)) (same t st Damaged)
     (tidyReached t st (reach (slots t) (view (slots t) t)))))
 
--- "Figures hands back height, level records, c, m, fares, free slots and allowed rank"; refused, zeros
-pub record Report : Type 0 where
-  pub answer : Answer
-  pub figures : Figures
-
+-- refused figures are zeros
 abbrev pub noFigures : Figures
 noFigures = record { height = 0; level = 0; c = 0; m = 0; fares = 0; free = 0; allowed = 0 }
 
 abbrev pub noReport : Answer → Report
 noReport a = record { answer = a; figures = noFigures }
 
+-- "Figures hands back height, level records, c, m, fares, free slots and allowed rank"
 unfoldable pub figuresReached : List ℕ → State → Reached → Report
 figuresReached t st hurt = noReport Damaged
 figuresReached t st (reached r marks) =

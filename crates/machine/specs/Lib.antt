@@ -10,6 +10,7 @@ pub mod TakeOut
 pub mod Rows
 pub mod Settling
 pub mod Step
+pub mod Contract
 pub mod Reach
 pub mod Allowed
 pub mod Calls

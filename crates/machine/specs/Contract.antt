@@ -1,0 +1,32 @@
+-- How the contracts of the code speak of a call: the table that it leaves beside what it hands back.
+use Prim.Native.Nat.{ℕ, _*_, _≤_}
+use mathlib.Core.Path.{_≡_}
+use mathlib.Core.Bool.{Bool}
+use mathlib.Core.List.{List}
+use lib.ListN.{length}
+use Rattle.types.specs.declared.Turn.{Turn}
+use Rattle.types.specs.declared.Out.{Out}
+use Rattle.types.specs.declared.Outcome.{Outcome}
+use Rattle.machine.specs.Table.{width, puts}
+use Rattle.machine.specs.Commit.{Did}
+use Rattle.machine.specs.Step.{Left}
+
+-- a table of n slots, as the functions below the public calls find it
+abbrev pub Sized : List ℕ → ℕ → Type 0
+Sized t n = (length t ≡ n * width) × (n ≤ 4096)
+
+-- a call left table t and handed back o
+unfoldable pub after : List ℕ → Out → Left
+after t o = record { table = t; state = o .state; answer = o .answer }
+
+-- the same below the public calls: what a phase did, as a table and a turn
+pub record Played : Type 0 where
+  pub table : List ℕ
+  pub turn : Turn
+  pub committed : Bool
+
+unfoldable pub acted : List ℕ → Outcome → Played
+acted t o = record { table = t; turn = o .turn; committed = o .committed }
+
+unfoldable pub played : List ℕ → Did → Played
+played t d = record { table = puts t (d .writes); turn = d .turn; committed = d .committed }
