@@ -1,6 +1,7 @@
 pub mod Fibonacci
 pub mod Choice
 pub mod Scan
+pub mod Count
 pub mod Writes
 pub mod Tests
 pub mod Ride

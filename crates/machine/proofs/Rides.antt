@@ -33,7 +33,7 @@ use Rattle.machine.specs.Table.{View, view, Write, fill, lead, off, plac
 use Rattle.machine.specs.Answers.{numberOf, priceOf}
 use Rattle.types.specs.Task.{idleTask, isBusy}
 use Rattle.machine.specs.State.{taskAt, withTask, freshState, settling, busyTasks, countOpen, sound, jobFits, askFits}
-use Rattle.machine.specs.Walk.{sought, atLeaf, serveArrival, outranks, settleArrival, arrival, walkTo, walkFrom}
+use Rattle.machine.specs.Walk.{sought, atLeaf, serveArrival, outranks, settleArrival, arrival, walkTo, walkFrom, walkOn}
 use Rattle.machine.specs.Commit.{Did, reading, commitIf}
 use Rattle.machine.specs.PutIn.{leafOf, innerRank, putGrounds, putTest, putWrites, putTurn, putRoom, putLimit, putCommit, readPutParent, readPutLeaf, putStep}
 use Rattle.machine.specs.TakeOut.{other, takeApart, takeLeaf, takeGrounds, takeTest, takeRoom, takeCommit, readTakeGrand, readTakeParent, readTakeLeft, readTakeRight, takeStep}
@@ -132,7 +132,7 @@ kept t st i l =
     ifB (ltb a 10) true
     (equal t (l .table) && ifB (eqb a 15 || eqb a 16) (equal (ofState (withTask st i idleTask)) (ofState (l .state))) (equal (ofState st) (ofState (l .state))))
 
--- a call that left l, of task i, is looked at
+-- a call that left l, of task i (8: of none), is looked at
 seen : World → ℕ → Left → World
 unfolding kept
 seen w i l =
@@ -224,14 +224,14 @@ acted w (abandon i) a b =
     judge (seen w i l) (gives (l .answer) a b)
 acted w tidy a b =
     let l = tidyOf (w .table) (w .state) in
-    judge (seen w 0 l) (gives (l .answer) a b)
+    judge (seen w 8 l) (gives (l .answer) a b)
 acted w figures a b =
     let r = figuresOf (w .table) (w .state) in
-    judge (seen w 0 (record { table = w .table; state = w .state; answer = r .answer })) (gives (r .answer) a b)
+    judge (seen w 8 (record { table = w .table; state = w .state; answer = r .answer })) (gives (r .answer) a b)
 acted w (list n) a b =
     let room : List ℕ = replicate n 7 in
     let r = listOf (w .table) (w .state) room in
-    judge (seen w 0 (record { table = w .table; state = w .state; answer = r .answer }))
+    judge (seen w 8 (record { table = w .table; state = w .state; answer = r .answer }))
     (gives (r .answer) a b && (ifB (leb 10 a) (equal (r .room) room) true))
 
 -- the damage is done
@@ -243,10 +243,15 @@ hurtBy w (u-is x) = record { table = w .table; state = record { tasks = w .state
 hurtBy w (length-is l) = record { table = take l (w .table ++ replicate l 0); state = w .state; oldTable = w .table; oldState = w .state; settled = w .settled; fine = w .fine }
 hurtBy w (task-is i k) = record { table = w .table; state = withTask (w .state) i k; oldTable = w .table; oldState = w .state; settled = w .settled; fine = w .fine }
 
+-- before the last call: where its line began
+called : World → World → World
+called w e =
+    record { table = e .table; state = e .state; oldTable = w .table; oldState = w .state; settled = e .settled; fine = e .fine }
+
 went : World → List Line → World
-unfolding acted hurtBy
+unfolding acted hurtBy called
 went w [] = w
-went w (call act a p ∷ ls) = went (acted w act a p) ls
+went w (call act a p ∷ ls) = went (called w (acted w act a p)) ls
 went w (damage h ∷ ls) = went (hurtBy w h) ls
 
 -- what is found after the ride
@@ -344,5 +349,5 @@ allPrint (f ∷ fs) = equalLines (programOf (f .bytes)) (f .lines) && allPrint f
 
 -- every ride and every call file comes out as it must
 rides-hold : T (allHold documentRides nowhere nowhere && allPrint files)
-unfolding allHold nowhere documentRides allPrint files ifB inTree sentinel numberFits priceFits fareMarks innerMarks isLink isLeaf isInner plainForm entryForm wellFormed linked level isFare leads still place lengthFits view put puts freeFrom free slot1 slot2 slot3 countFree settling busyTasks countOpen sound jobFits askFits sought atLeaf serveArrival outranks settleArrival arrival walkTo walkFrom reading commitIf leafOf innerRank putGrounds putTest putWrites putTurn putRoom putLimit putCommit readPutParent readPutLeaf putStep takeApart takeLeaf takeGrounds takeTest takeRoom other takeCommit readTakeGrand readTakeParent readTakeLeft readTakeRight takeStep parentRow levelRow sided linkAt aroundOf readGrand readParent readOn groundsTwo groundsThree groundsFour testTwo testThree testFour promoteDo rotateDo rotateTwoDo doubleDo rotateBy doubleBy promoteBy commitTwo commitThree commitFour chooseFormed turnFormed chooseBy chooseStep rotateOn rotateTurn rotateFirst rotateStep doubleTurn doubleFirst doubleStep settleStep phaseStep carried stepWork stepOf reachable reachFrom reach larger deeper fibonacci atMost allowedRank emptyTable resetOf beginOf abandonWork abandonOf sweep tidyReached tidyOf figuresReached figuresOf listReached listOf two four noJob begins stepsRecord abandons tidies byOperation decode runOf serve printed lineOf endLine linesFrom programOf
+unfolding allHold nowhere documentRides allPrint files ifB inTree sentinel numberFits priceFits fareMarks innerMarks isLink isLeaf isInner plainForm entryForm wellFormed linked level isFare leads still place lengthFits view put puts freeFrom free slot1 slot2 slot3 countFree settling busyTasks countOpen sound jobFits askFits sought atLeaf serveArrival outranks settleArrival arrival walkTo walkFrom walkOn reading commitIf leafOf innerRank putGrounds putTest putWrites putTurn putRoom putLimit putCommit readPutParent readPutLeaf putStep takeApart takeLeaf takeGrounds takeTest takeRoom other takeCommit readTakeGrand readTakeParent readTakeLeft readTakeRight takeStep parentRow levelRow sided linkAt aroundOf readGrand readParent readOn groundsTwo groundsThree groundsFour testTwo testThree testFour promoteDo rotateDo rotateTwoDo doubleDo rotateBy doubleBy promoteBy commitTwo commitThree commitFour chooseFormed turnFormed chooseBy chooseStep rotateOn rotateTurn rotateFirst rotateStep doubleTurn doubleFirst doubleStep settleStep phaseStep carried stepWork stepOf reachable reachFrom reach larger deeper fibonacci atMost allowedRank emptyTable resetOf beginOf abandonWork abandonOf sweep tidyReached tidyOf figuresReached figuresOf listReached listOf two four noJob begins stepsRecord abandons tidies byOperation decode runOf serve printed lineOf endLine linesFrom programOf
 rides-hold = tt

@@ -68,7 +68,7 @@ linked n s r = not (eqb s 0) && wellFormed n s r
 unfoldable pub level : Rec → Rec → Bool
 level p r = not (sentinel r) && eqb (r .rank) (p .rank)
 
--- "a leaf without sentinel marks" is a fare
+-- a fare is a leaf without sentinel marks, wherever it hangs
 unfoldable pub isFare : Rec → Bool
 isFare r = isLeaf r && not (sentinel r)
 

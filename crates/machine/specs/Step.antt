@@ -2,23 +2,25 @@
 use Prim.Native.Nat.{ℕ, _+_, _/_}
 use mathlib.Core.Bool.{Bool, true, false, _&&_, not}
 use mathlib.Core.List.{List}
-use lib.Dec.{ltb}
+use lib.Dec.{ltb, eqb}
 use lib.ListN.{length, set}
 use Rattle.types.specs.declared.Job.{Job}
 use Rattle.types.specs.declared.Phase.{Phase}
 use Rattle.types.specs.declared.Phase.the-variants.{Start, Walk, PuttingIn, TakingOut, Settling}
 use Rattle.types.specs.declared.Work.{Work}
 use Rattle.types.specs.declared.Work.the-variants.{Idle, Busy}
+use Rattle.types.specs.declared.Task.{Task}
 use Rattle.types.specs.declared.State.{State}
 use Rattle.types.specs.declared.Answer.{Answer}
-use Rattle.types.specs.declared.Answer.the-variants.{Accepted, Found, NotHeld, PutSettled, HeldAlready, TakenOut, PutUnsettled, TaskNumber, OutOfRange, TaskBusy, TaskIdle, SomeBusy, NoRoom, Limit, Damaged, Length, BadRecord}
+use Rattle.types.specs.declared.Answer.the-variants.{Accepted, TaskNumber, TaskIdle, Damaged, Length}
 use Rattle.types.specs.declared.Turn.{Turn}
 use Rattle.types.specs.declared.Turn.the-variants.{Hurt, Next, Done}
 use Rattle.machine.specs.Choice.{ifB}
+use Rattle.machine.specs.Answers.{numberOf}
 use Rattle.machine.specs.Table.{View, view, puts, lengthFits, slots}
 use Rattle.types.specs.Task.{idleTask, noGrand}
 use Rattle.machine.specs.State.{taskAt, one, sound, jobFits}
-use Rattle.machine.specs.Walk.{walkFrom}
+use Rattle.machine.specs.Walk.{walkFrom, walkOn}
 use Rattle.machine.specs.Commit.{Did, calm}
 use Rattle.machine.specs.PutIn.{putStep}
 use Rattle.machine.specs.TakeOut.{takeStep}
@@ -37,36 +39,24 @@ same t st a = record { table = t; state = st; answer = a }
 -- "first the entry's left, then the link on the sought side"; then as the phase says. m: put-ins committed so far
 unfoldable pub phaseStep : View → ℕ → ℕ → Job → Phase → Did
 phaseStep v n m j (Start g) = calm (walkFrom v n g j noGrand 0)
-phaseStep v n m j (Walk g q) = calm (walkFrom v n g j (q .parent) (q .here))
+phaseStep v n m j (Walk g q) = calm (walkOn v n g j q)
 phaseStep v n m j (PuttingIn q s) = putStep v n m j q s
 phaseStep v n m j (TakingOut q s) = takeStep v n j q s
 phaseStep v n m j (Settling q s) = settleStep v n j q s
 
 -- 6: "task idle, u one more"
 abbrev pub unsettled : Answer → Bool
-unsettled Accepted = false
-unsettled (Found p) = false
-unsettled NotHeld = false
-unsettled PutSettled = false
-unsettled HeldAlready = false
-unsettled TakenOut = false
-unsettled PutUnsettled = true
-unsettled TaskNumber = false
-unsettled OutOfRange = false
-unsettled TaskBusy = false
-unsettled TaskIdle = false
-unsettled SomeBusy = false
-unsettled NoRoom = false
-unsettled Limit = false
-unsettled Damaged = false
-unsettled Length = false
-unsettled BadRecord = false
+unsettled a = eqb (numberOf a) 6
+
+-- task i stored, m and u so much more
+abbrev pub counted : State → ℕ → Task → ℕ → ℕ → State
+counted st i k m u = record { tasks = set (st .tasks) i k; m = st .m + m; u = st .u + u }
 
 -- the state after a turn of task i; `committed`: m is one more
 abbrev pub turned : State → ℕ → Turn → Bool → State
 turned st i Hurt c = st
-turned st i (Next k) c = record { tasks = set (st .tasks) i k; m = st .m + one c; u = st .u }
-turned st i (Done a) c = record { tasks = set (st .tasks) i idleTask; m = st .m + one c; u = st .u + one (unsettled a) }
+turned st i (Next k) c = counted st i k (one c) 0
+turned st i (Done a) c = counted st i idleTask (one c) (one (unsettled a))
 
 abbrev pub answered : Turn → Answer
 answered Hurt = Damaged

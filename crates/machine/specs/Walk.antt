@@ -61,3 +61,7 @@ unfoldable pub walkFrom : View → ℕ → Goal → Job → ℕ → ℕ → Turn
 walkFrom v n g j grand s =
     ifB (not (wellFormed n s (v s))) Hurt
     (walkTo v n g j (record { grand = grand; parent = s; here = sought (j .number) (v s) }))
+
+-- a walk that goes on: "here" was reached by a link, so at 0 it is missing
+unfoldable pub walkOn : View → ℕ → Goal → Job → Path → Turn
+walkOn v n g j q = ifB (eqb (q .here) 0) Hurt (walkFrom v n g j (q .parent) (q .here))
