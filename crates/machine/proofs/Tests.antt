@@ -20,6 +20,10 @@ pub both-second : (a b : Bool) → (a && b) ≡ true → b ≡ true
 both-second true b e = e
 both-second false b e = absurd (let z : _≡_ {A = ℕ} 0 1 = cc in omega arith)
 
+pub either-way : (a b : Bool) (P : Type 0) → (a ≡ true → P) → (b ≡ true → P) → (a || b) ≡ true → P
+either-way true b P f g e = f refl
+either-way false b P f g e = g e
+
 -- what is well formed in the view is in the table
 pub formed-in : (n : ℕ) (t : List ℕ) (s : ℕ) → wellFormed n s (view n t s) ≡ true → s < n
 unfolding view wellFormed
