@@ -5,7 +5,7 @@ ghost use mathlib.Core.Path.{_≡_};
 ghost use Prim.Native.Nat.{_+_, _-_, _*_, _/_, _≤_, _<_};
 ghost use lib.ListN.{length};
 ghost use Rattle.machine.specs.Contract.{Sized};
-ghost use Rattle.machine.specs.Record.{inTree, sentinel, isLeaf, wellFormed, linked, level, isFare, leads, linksOf, still};
+ghost use Rattle.machine.specs.Record.{inTree, sentinel, isLeaf, wellFormed, linked, level, isFare, leads, linksOf, still, other};
 ghost use Rattle.machine.specs.Table.{view, put, fill, lead, off, lengthFits};
 ghost use Rattle.machine.specs.Walk.{sought, outranks};
 
@@ -169,4 +169,14 @@ pub fn sought_link(k: u32, r: Rec) -> u32
         return r.left;
     }
     r.right
+}
+
+// The link that does not lead to s.
+pub fn other_link(b: Links, s: u32) -> u32
+    ensures { λ r. ⌜ r ≡ other b s ⌝ }
+{
+    if b.left == s {
+        return b.right;
+    }
+    b.left
 }

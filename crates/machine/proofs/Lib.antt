@@ -6,5 +6,6 @@ pub mod Writes
 pub mod Tests
 pub mod Ride
 pub mod DocumentRides
+pub mod OwnRides
 pub mod Files
 pub mod Rides

@@ -28,7 +28,7 @@ use Rattle.types.specs.declared.State.{State}
 use Rattle.types.specs.declared.Figures.{Figures}
 use Rattle.types.specs.declared.Answer.{Answer}
 use Rattle.machine.specs.Choice.{ifB}
-use Rattle.machine.specs.Record.{inTree, sentinel, numberFits, priceFits, fareMarks, innerMarks, isLink, isLeaf, isInner, plainForm, entryForm, wellFormed, linked, level, isFare, leads, still}
+use Rattle.machine.specs.Record.{inTree, sentinel, numberFits, priceFits, fareMarks, innerMarks, isLink, isLeaf, isInner, plainForm, entryForm, wellFormed, linked, level, isFare, leads, still, other}
 use Rattle.machine.specs.Table.{View, view, Write, fill, lead, off, place, slots, countFree, lengthFits, put, puts, freeFrom, free, slot1, slot2, slot3}
 use Rattle.machine.specs.Answers.{numberOf, priceOf}
 use Rattle.types.specs.Task.{idleTask, isBusy}
@@ -36,8 +36,8 @@ use Rattle.machine.specs.State.{taskAt, withTask, freshState, settling, 
 use Rattle.machine.specs.Walk.{sought, atLeaf, serveArrival, outranks, settleArrival, arrival, walkTo, walkFrom, walkOn}
 use Rattle.machine.specs.Commit.{Did, reading, commitIf}
 use Rattle.machine.specs.PutIn.{leafOf, innerRank, putGrounds, putTest, putWrites, putTurn, putRoom, putLimit, putCommit, readPutParent, readPutLeaf, putStep}
-use Rattle.machine.specs.TakeOut.{other, takeApart, takeLeaf, takeGrounds, takeTest, takeRoom, takeCommit, readTakeGrand, readTakeParent, readTakeLeft, readTakeRight, takeStep}
-use Rattle.machine.specs.Rows.{parentRow, levelRow, sided, linkAt, aroundOf}
+use Rattle.machine.specs.TakeOut.{takeApart, takeLeaf, takeGrounds, takeTest, takeRoom, takeCommit, readTakeGrand, readTakeParent, readTakeLeft, readTakeRight, takeStep}
+use Rattle.machine.specs.Rows.{parentRow, levelRow, sided, linkAt, aroundOf, rotateWrites, doubleWrites}
 use Rattle.machine.specs.Settling.{readGrand, readParent, readOn, groundsTwo, groundsThree, groundsFour, testTwo, testThree, testFour, promoteDo, rotateDo, rotateTwoDo, doubleDo, rotateBy, doubleBy, promoteBy, commitTwo, commitThree, commitFour, chooseFormed, turnFormed, chooseBy, chooseStep, rotateOn, rotateTurn, rotateFirst, rotateStep, doubleTurn, doubleFirst, doubleStep, settleStep}
 use Rattle.machine.specs.Step.{Left, phaseStep, stepOf, carried, stepWork}
 use Rattle.machine.specs.Reach.{reachable, reachFrom, reach, larger, deeper}
@@ -46,6 +46,7 @@ use Rattle.machine.specs.Calls.{resetOf, beginOf, abandonOf, tidyOf, fig
 use Rattle.machine.specs.CallFile.{two, four, noJob, begins, steps as stepsRecord, abandons, tidies, byOperation, decode, runOf, serve, printed, lineOf, endLine, linesFrom, programOf}
 use Rattle.machine.proofs.Ride.{From, anew, onward, beside, Act, begin, step, abandon, tidy, figures, list, Hurting, field, m-is, u-is, length-is, task-is, Line, call, damage, Outcome, After, same, left, Ride, busy}
 use Rattle.machine.proofs.DocumentRides.{documentRides}
+use Rattle.machine.proofs.OwnRides.{ownRides}
 use Rattle.machine.proofs.Files.{File, files}
 use lib.Dec.{T}
 
@@ -348,6 +349,6 @@ allPrint [] = true
 allPrint (f ∷ fs) = equalLines (programOf (f .bytes)) (f .lines) && allPrint fs
 
 -- every ride and every call file comes out as it must
-rides-hold : T (allHold documentRides nowhere nowhere && allPrint files)
-unfolding allHold nowhere documentRides allPrint files ifB inTree sentinel numberFits priceFits fareMarks innerMarks isLink isLeaf isInner plainForm entryForm wellFormed linked level isFare leads still place lengthFits view put puts freeFrom free slot1 slot2 slot3 countFree settling busyTasks countOpen sound jobFits askFits sought atLeaf serveArrival outranks settleArrival arrival walkTo walkFrom walkOn reading commitIf leafOf innerRank putGrounds putTest putWrites putTurn putRoom putLimit putCommit readPutParent readPutLeaf putStep takeApart takeLeaf takeGrounds takeTest takeRoom other takeCommit readTakeGrand readTakeParent readTakeLeft readTakeRight takeStep parentRow levelRow sided linkAt aroundOf readGrand readParent readOn groundsTwo groundsThree groundsFour testTwo testThree testFour promoteDo rotateDo rotateTwoDo doubleDo rotateBy doubleBy promoteBy commitTwo commitThree commitFour chooseFormed turnFormed chooseBy chooseStep rotateOn rotateTurn rotateFirst rotateStep doubleTurn doubleFirst doubleStep settleStep phaseStep carried stepWork stepOf reachable reachFrom reach larger deeper fibonacci atMost allowedRank emptyTable resetOf beginOf abandonWork abandonOf sweep tidyReached tidyOf figuresReached figuresOf listReached listOf two four noJob begins stepsRecord abandons tidies byOperation decode runOf serve printed lineOf endLine linesFrom programOf
+rides-hold : T (allHold (documentRides ++ ownRides) nowhere nowhere && allPrint files)
+unfolding allHold nowhere documentRides ownRides allPrint files ifB inTree sentinel numberFits priceFits fareMarks innerMarks isLink isLeaf isInner plainForm entryForm wellFormed linked level isFare leads still place lengthFits view put puts freeFrom free slot1 slot2 slot3 countFree settling busyTasks countOpen sound jobFits askFits sought atLeaf serveArrival outranks settleArrival arrival walkTo walkFrom walkOn reading commitIf leafOf innerRank putGrounds putTest putWrites putTurn putRoom putLimit putCommit readPutParent readPutLeaf putStep takeApart takeLeaf takeGrounds takeTest takeRoom other takeCommit readTakeGrand readTakeParent readTakeLeft readTakeRight takeStep parentRow levelRow sided linkAt aroundOf rotateWrites doubleWrites readGrand readParent readOn groundsTwo groundsThree groundsFour testTwo testThree testFour promoteDo rotateDo rotateTwoDo doubleDo rotateBy doubleBy promoteBy commitTwo commitThree commitFour chooseFormed turnFormed chooseBy chooseStep rotateOn rotateTurn rotateFirst rotateStep doubleTurn doubleFirst doubleStep settleStep phaseStep carried stepWork stepOf reachable reachFrom reach larger deeper fibonacci atMost allowedRank emptyTable resetOf beginOf abandonWork abandonOf sweep tidyReached tidyOf figuresReached figuresOf listReached listOf two four noJob begins stepsRecord abandons tidies byOperation decode runOf serve printed lineOf endLine linesFrom programOf
 rides-hold = tt

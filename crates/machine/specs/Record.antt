@@ -4,6 +4,7 @@ use mathlib.Core.Bool.{Bool, true, false, _&&_, _||_, not}
 use lib.Dec.{ltb, leb, eqb}
 use Rattle.types.specs.declared.Rec.{Rec}
 use Rattle.types.specs.declared.Links.{Links}
+use Rattle.machine.specs.Choice.{ifB}
 
 -- "Sentinels carry number 4,294,967,295": it stands above every fare number
 abbrev pub topNumber : ℕ
@@ -82,3 +83,7 @@ leads a s = not (eqb s 0) && (eqb (a .left) s || eqb (a .right) s)
 -- "still in state 1 with both links as noted"
 unfoldable pub still : Rec → Links → Bool
 still r a = inTree r && (eqb (r .left) (a .left) && eqb (r .right) (a .right))
+
+-- "z's other child": the link that does not lead to s; the left one where neither does
+unfoldable pub other : Links → ℕ → ℕ
+other b s = ifB (eqb (b .left) s) (b .right) (b .left)

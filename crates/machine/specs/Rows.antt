@@ -11,10 +11,10 @@ use Rattle.types.specs.declared.ParentRow.the-variants.{Outranked, Promote, Wid
 use Rattle.types.specs.declared.LevelRow.{LevelRow}
 use Rattle.types.specs.declared.LevelRow.the-variants.{NoRow, RotateOne, RotateTwo, DoubleRotation}
 use Rattle.machine.specs.Choice.{ifB}
+use Rattle.machine.specs.Record.{other}
 use Rattle.machine.specs.Table.{Write, fill, lead, off}
 use Rattle.types.specs.declared.Around.{Around}
 use Rattle.machine.specs.PutIn.{innerOf}
-use Rattle.machine.specs.TakeOut.{other}
 
 -- "z minus s is 0 or 1": promote; "at least 2": a rotation; 17: "s outranks z"
 unfoldable pub parentRow : ℕ → ℕ → ParentRow
@@ -23,11 +23,12 @@ parentRow z s = ifB (ltb z s) Outranked (ifB (leb (z - s) 1) Promote Wider)
 -- "x minus y at least 2"; "x minus y = 1, x minus w = 1"; "x minus y = 1, x minus w at least 2"; 17: "y or w outranks x", "no row .. fits"
 unfoldable pub levelRow : ℕ → ℕ → ℕ → LevelRow
 levelRow x y w =
-    ifB (ltb x y || ltb x w) NoRow
+    ifB (ltb x y) NoRow
+    (ifB (ltb x w) NoRow
     (ifB (leb 2 (x - y)) RotateOne
     (ifB (eqb (x - y) 0) NoRow
     (ifB (eqb (x - w) 0) NoRow
-    (ifB (eqb (x - w) 1) RotateTwo DoubleRotation))))
+    (ifB (eqb (x - w) 1) RotateTwo DoubleRotation)))))
 
 -- an inner record that leads to `near` on x's side and to `far` on the other
 unfoldable pub sided : Bool → ℕ → ℕ → ℕ → ℕ → Rec
@@ -54,10 +55,12 @@ aroundOf q a b c =
     }
 
 -- "rotate, 2 slots": x on top with rank rx in slot i, z below it with rank rz in slot k
-abbrev pub rotateWrites : Path → Around → Rec → Rec → ℕ → ℕ → ℕ → ℕ → List Write
+abbrev pub twoRecords : Path → Around → Rec → Rec → ℕ → ℕ → List Write
+twoRecords q o top below i k = fill i top ∷ fill k below ∷ off (q .parent) ∷ off (q .here) ∷ lead (q .grand) (o .high) i ∷ []
+
+unfoldable pub rotateWrites : Path → Around → Rec → Rec → ℕ → ℕ → ℕ → ℕ → List Write
 rotateWrites q o z x rx rz i k =
-    fill i (sided (o .side) (x .number) rx (o .w) k) ∷ fill k (sided (o .side) (z .number) rz (o .y) (o .s))
-    ∷ off (q .parent) ∷ off (q .here) ∷ lead (q .grand) (o .high) i ∷ []
+    twoRecords q o (sided (o .side) (x .number) rx (o .w) k) (sided (o .side) (z .number) rz (o .y) (o .s)) i k
 
 -- "double rotation, 3 slots | x − 1, y + 1, z − 1": y on top in slot i, its left child in slot k, its right one in slot l; d are y's links
 abbrev pub doubleX : Around → Links → Rec → Rec
@@ -66,8 +69,12 @@ doubleX o d x = sided (o .side) (x .number) (x .rank - 1) (o .w) (linkAt (o .sid
 abbrev pub doubleZ : Around → Links → Rec → Rec
 doubleZ o d z = sided (o .side) (z .number) (z .rank - 1) (linkAt (not (o .side)) d) (o .s)
 
-abbrev pub doubleWrites : Path → Around → Links → Rec → Rec → Rec → ℕ → ℕ → ℕ → List Write
+abbrev pub sevenWrites : Path → Around → Rec → Rec → Rec → ℕ → ℕ → ℕ → List Write
+sevenWrites q o top left right i k l =
+    fill i top ∷ fill k left ∷ fill l right ∷ off (q .parent) ∷ off (q .here) ∷ off (o .y) ∷ lead (q .grand) (o .high) i ∷ []
+
+unfoldable pub doubleWrites : Path → Around → Links → Rec → Rec → Rec → ℕ → ℕ → ℕ → List Write
 doubleWrites q o d z x y i k l =
-    fill i (innerOf (y .number) (y .rank + 1) k l)
-    ∷ fill k (ifB (o .side) (doubleX o d x) (doubleZ o d z)) ∷ fill l (ifB (o .side) (doubleZ o d z) (doubleX o d x))
-    ∷ off (q .parent) ∷ off (q .here) ∷ off (o .y) ∷ lead (q .grand) (o .high) i ∷ []
+    ifB (o .side)
+    (sevenWrites q o (innerOf (y .number) (y .rank + 1) k l) (doubleX o d x) (doubleZ o d z) i k l)
+    (sevenWrites q o (innerOf (y .number) (y .rank + 1) k l) (doubleZ o d z) (doubleX o d x) i k l)

@@ -19,11 +19,10 @@ use Rattle.types.specs.declared.ParentRow.the-variants.{Outranked, Promote, Wid
 use Rattle.types.specs.declared.LevelRow.{LevelRow}
 use Rattle.types.specs.declared.LevelRow.the-variants.{NoRow, RotateOne, RotateTwo, DoubleRotation}
 use Rattle.machine.specs.Choice.{ifB}
-use Rattle.machine.specs.Record.{wellFormed, linked, inTree, leads, linksOf, still, level}
+use Rattle.machine.specs.Record.{wellFormed, linked, inTree, leads, linksOf, still, level, other}
 use Rattle.machine.specs.Table.{View, Write, slot1, slot2, slot3}
 use Rattle.types.specs.Task.{busy}
 use Rattle.machine.specs.Commit.{reading, Did, calm, commitIf}
-use Rattle.machine.specs.TakeOut.{other}
 use Rattle.types.specs.declared.Around.{Around}
 use Rattle.machine.specs.Rows.{parentRow, levelRow, aroundOf, promoteWrites, rotateWrites, doubleWrites}
 

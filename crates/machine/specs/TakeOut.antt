@@ -14,7 +14,7 @@ use Rattle.types.specs.declared.Answer.the-variants.{TakenOut, NoRoom}
 use Rattle.types.specs.declared.Turn.{Turn}
 use Rattle.types.specs.declared.Turn.the-variants.{Done}
 use Rattle.machine.specs.Choice.{ifB}
-use Rattle.machine.specs.Record.{wellFormed, linked, isLeaf, inTree, leads, linksOf, still}
+use Rattle.machine.specs.Record.{wellFormed, linked, isLeaf, inTree, leads, linksOf, still, other}
 use Rattle.machine.specs.Table.{View, Write, fill, lead, off, slot1}
 use Rattle.types.specs.Task.{busy}
 use Rattle.machine.specs.Commit.{reading, Did, calm, commitIf}
@@ -47,10 +47,6 @@ unfoldable pub takeRoom : View → ℕ → Path → Bool → Rec → ℕ → Did
 takeRoom v n q e s sibling =
     ifB (leb n (slot1 v n)) (calm (Done NoRoom))
     (record { turn = Done TakenOut; committed = false; writes = takeWrites q e s sibling (slot1 v n) })
-
--- the child that "here" is not
-unfoldable pub other : Links → ℕ → ℕ
-other b s = ifB (eqb (b .left) s) (b .right) (b .left)
 
 unfoldable pub takeCommit : View → ℕ → Job → Path → Links → Links → Links → Links → Did
 takeCommit v n j q a b c d =

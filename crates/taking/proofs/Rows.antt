@@ -22,11 +22,11 @@ use Rattle.types.specs.declared.Outcome.{Outcome}
 use Rattle.types.specs.declared.Answer.the-variants.{NoRoom, TakenOut}
 use Rattle.types.specs.Task.{busy}
 use Rattle.machine.specs.Choice.{ifB}
-use Rattle.machine.specs.Record.{wellFormed, linked, leads}
+use Rattle.machine.specs.Record.{wellFormed, linked, leads, other}
 use Rattle.machine.specs.Table.{view, puts, slot1}
 use Rattle.machine.specs.Commit.{Did, calm, commitIf}
 use Rattle.machine.specs.Contract.{acted, played}
-use Rattle.machine.specs.TakeOut.{takeApart, takeLeaf, takeGrounds, takeTest, takeWrites, takeRoom, other, takeCommit, readTakeGrand, readTakeParent, readTakeLeft, readTakeRight, takeStep}
+use Rattle.machine.specs.TakeOut.{takeApart, takeLeaf, takeGrounds, takeTest, takeWrites, takeRoom, takeCommit, readTakeGrand, readTakeParent, readTakeLeft, readTakeRight, takeStep}
 use Rattle.machine.proofs.Choice.{if-elim}
 use Rattle.machine.proofs.Tests.{both-first, both-second, formed-in, linked-in, either-way}
 use Rattle.machine.proofs.Writes.{quiet}

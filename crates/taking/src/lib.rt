@@ -6,6 +6,7 @@ use fields::is_still;
 use fields::lead_to;
 use fields::links_of;
 use fields::load;
+use fields::other_link;
 use fields::put_fill;
 use fields::put_lead;
 use fields::put_off;
@@ -32,17 +33,7 @@ ghost use lib.Dec.{eqb};
 ghost use Rattle.machine.specs.Choice.{ifB};
 ghost use Rattle.machine.specs.Contract.{Sized, acted, played};
 ghost use Rattle.machine.specs.Table.{view, puts};
-ghost use Rattle.machine.specs.TakeOut.{takeApart, takeLeaf, takeGrounds, takeTest, takeWrites, takeRoom, other, takeCommit, readTakeGrand, readTakeParent, readTakeLeft, readTakeRight, takeStep};
-
-// The link that does not lead to s.
-pub fn other_link(b: Links, s: u32) -> u32
-    ensures { λ r. ⌜ r ≡ other b s ⌝ }
-{
-    if b.left == s {
-        return b.right;
-    }
-    b.left
-}
+ghost use Rattle.machine.specs.TakeOut.{takeApart, takeLeaf, takeGrounds, takeTest, takeWrites, takeRoom, takeCommit, readTakeGrand, readTakeParent, readTakeLeft, readTakeRight, takeStep};
 
 // No two of the records read are one and the same.
 fn take_apart(q: Path, b: Links) -> bool

@@ -3,7 +3,7 @@ use Rattle.machine.specs.Reach.{depth}
 use borrow.Author.Needs.{needs}
 use Rattle.taking.proofs.take_commit.Statement.{statement}
 use Rattle.taking.proofs.take_commit.Tie as tie
-use Rattle.taking.proofs.other_link.Reads as other-link-reads
+use Rattle.fields.proofs.other_link.Reads as other-link-reads
 use Rattle.taking.proofs.take_grounds.Reads as take-grounds-reads
 use Rattle.taking.proofs.take_room.Reads as take-room-reads
 use Rattle.taking.proofs.take_test.Reads as take-test-reads

@@ -1,8 +1,8 @@
 use Rattle.machine.specs.Choice.{ifB}
-use Rattle.machine.specs.TakeOut.{other}
+use Rattle.machine.specs.Record.{other}
 use borrow.Author.Tests.{eq-eqb, ne-eqb}
-use Rattle.taking.proofs.other_link.Statement.{statement}
-use Rattle.taking.proofs.other_link.Tie as tie
+use Rattle.fields.proofs.other_link.Statement.{statement}
+use Rattle.fields.proofs.other_link.Tie as tie
 
 returns : tie.Need-returns
 unfolding other ifB

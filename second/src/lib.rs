@@ -1,0 +1,22 @@
+//! The fare tree of document 01: the second program.
+//!
+//! Read in this order: `table` (a record, well formed), `task` (what a task
+//! is about to do), `step` (walk and readings), `commit` (put-in and
+//! take-out), `settle`, `calls` and `reach` (the other calls), `callfile`
+//! (the program). `make` and `count` are for random call files, `ride` for
+//! rides written as text.
+
+pub mod allowed;
+pub mod answer;
+pub mod callfile;
+pub mod calls;
+pub mod commit;
+pub mod count;
+pub mod make;
+pub mod random;
+pub mod reach;
+pub mod ride;
+pub mod settle;
+pub mod step;
+pub mod table;
+pub mod task;

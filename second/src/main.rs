@@ -1,0 +1,127 @@
+//! The second program: see `USAGE`.
+
+use std::fs;
+use std::io::{self, Read, Write};
+use std::process::ExitCode;
+
+use second::callfile;
+use second::count;
+use second::make::{make, Kind};
+use second::ride::{antt, parse, run, show, Ridden, Ride, Trouble};
+
+const USAGE: &str = "usage:
+  second run < FILE.calls         answer a call file on 64 slots
+  second count < FILE.calls       count its answers, settling commits and restarts
+  second make KIND SEED RECORDS   write a random call file; KIND is rush, burst,
+                                  abandon, fill, sorted, garbage or mixed
+  second rides FILE..             run text rides and compare
+  second antt FILE..              print text rides in the prover's notation
+  second show FILE..              print table and tasks at the end of each ride
+";
+
+const MOST_RECORDS: usize = 10_000_000;
+
+/// Why the program stops: bad use or bad input (2), or a difference (1).
+struct Stop {
+    code: u8,
+    message: String,
+}
+
+fn bad_input(message: impl Into<String>) -> Stop {
+    let message = message.into();
+    Stop { code: 2, message }
+}
+
+fn main() -> ExitCode {
+    let words: Vec<String> = std::env::args().skip(1).collect();
+    match act(&words) {
+        Ok(()) => ExitCode::SUCCESS,
+        Err(stop) => {
+            eprintln!("second: {}", stop.message.trim_end());
+            ExitCode::from(stop.code)
+        }
+    }
+}
+
+fn act(words: &[String]) -> Result<(), Stop> {
+    let words: Vec<&str> = words.iter().map(String::as_str).collect();
+    match words[..] {
+        ["run"] => say(callfile::run(&standard_input()?).as_bytes()),
+        ["count"] => say(count::count(&standard_input()?).told().as_bytes()),
+        ["make", kind, seed, records] => make_calls(kind, seed, records),
+        ["rides", ref files @ ..] if !files.is_empty() => compare_rides(files),
+        ["antt", ref files @ ..] if !files.is_empty() => print_antt(files),
+        ["show", ref files @ ..] if !files.is_empty() => show_rides(files),
+        _ => Err(bad_input(format!("not understood\n{USAGE}"))),
+    }
+}
+
+fn say(text: &[u8]) -> Result<(), Stop> {
+    let mut out = io::stdout().lock();
+    out.write_all(text)
+        .and_then(|()| out.flush())
+        .map_err(|error| bad_input(format!("cannot write: {error}")))
+}
+
+fn standard_input() -> Result<Vec<u8>, Stop> {
+    let mut file = Vec::new();
+    io::stdin()
+        .read_to_end(&mut file)
+        .map_err(|error| bad_input(format!("cannot read standard input: {error}")))?;
+    Ok(file)
+}
+
+fn make_calls(kind: &str, seed: &str, records: &str) -> Result<(), Stop> {
+    let kind = Kind::named(kind).ok_or_else(|| bad_input(format!("no kind `{kind}`")))?;
+    let seed = seed
+        .parse()
+        .map_err(|_| bad_input(format!("`{seed}` is not a seed (0 to 2^64 - 1)")))?;
+    match records.parse() {
+        Ok(records @ 1..=MOST_RECORDS) => say(&make(kind, seed, records)),
+        _ => Err(bad_input(format!(
+            "`{records}` is not a number of records (1 to {MOST_RECORDS})"
+        ))),
+    }
+}
+
+/// The rides of one file, each with its outcome.
+fn ride_file(file: &str) -> Result<Vec<(Ride, Ridden)>, Stop> {
+    let text = fs::read_to_string(file).map_err(|error| bad_input(format!("{file}: {error}")))?;
+    let told = |code| {
+        move |trouble: Trouble| Stop {
+            code,
+            message: format!("{file}:{}: {}", trouble.line, trouble.message),
+        }
+    };
+    let rides = parse::parse(&text).map_err(told(2))?;
+    let ridden = run::run_all(&rides).map_err(told(1))?;
+    Ok(rides.into_iter().zip(ridden).collect())
+}
+
+fn compare_rides(files: &[&str]) -> Result<(), Stop> {
+    let mut count = 0;
+    for file in files {
+        for (ride, _) in ride_file(file)? {
+            count += 1;
+            say(format!("holds: {}\n", ride.title).as_bytes())?;
+        }
+    }
+    say(format!("{count} rides hold\n").as_bytes())
+}
+
+fn print_antt(files: &[&str]) -> Result<(), Stop> {
+    let mut all = Vec::new();
+    for file in files {
+        all.extend(ride_file(file)?);
+    }
+    say(antt::print(&all).as_bytes())
+}
+
+fn show_rides(files: &[&str]) -> Result<(), Stop> {
+    for file in files {
+        for (ride, ridden) in ride_file(file)? {
+            say(show::print(&ride, &ridden).as_bytes())?;
+        }
+    }
+    Ok(())
+}
