@@ -167,15 +167,14 @@ fn double_turn(t: &mut [u32], n: u32, j: Job, q: Path, a: Links, b: Links, c: Li
     double_by(t, n, level_row(x.rank, y.rank, w.rank), j, q, o, d, z, x, y)
 }
 
-// A promote whose x and y were read.
-fn promote_four(t: &mut [u32], n: u32, row: ParentRow, j: Job, q: Path, a: Links, b: Links, c: Links, d: Links, z: Rec, x: Rec) -> Outcome
+// A promote whose x and y were read; i is y's slot.
+fn promote_four(t: &mut [u32], n: u32, row: ParentRow, j: Job, q: Path, a: Links, b: Links, c: Links, d: Links, i: u32, z: Rec, x: Rec) -> Outcome
     requires { ⌜ Sized (now t) n × (q .parent < n) ⌝ }
-    ensures { λ r. ⌜ acted (now (t .exit)) r ≡ played (now (t .entry)) (commitFour (view n (now (t .entry))) n j q a b c d (aroundOf q a b c .y) z x (promoteBy row (view n (now (t .entry))) n j q a b z)) ⌝ }
+    ensures { λ r. ⌜ acted (now (t .exit)) r ≡ played (now (t .entry)) (commitFour (view n (now (t .entry))) n j q a b c d i z x (promoteBy row (view n (now (t .entry))) n j q a b z)) ⌝ }
 {
-    let o = around_of(q, a, b, c);
     let pz = load(t, n, q.grand);
-    let y = load(t, n, o.y);
-    if !grounds_four(n, q, a, b, o.y, pz, z, x, y) {
+    let y = load(t, n, i);
+    if !grounds_four(n, q, a, b, i, pz, z, x, y) {
         return calm_turn(Turn::Hurt);
     }
     if !test_four(a, b, c, d, pz, z, x, y) {
@@ -188,13 +187,13 @@ fn double_first(t: &mut [u32], n: u32, row: ParentRow, j: Job, q: Path, a: Links
     requires { ⌜ Sized (now t) n × (q .parent < n) × (q .here < n) ⌝ }
     ensures { λ r. ⌜ acted (now (t .exit)) r ≡ played (now (t .entry)) (doubleFirst row (view n (now (t .entry))) n j q a b c d z x) ⌝ }
 {
+    let o = around_of(q, a, b, c);
     if is_wider(row) {
-        let o = around_of(q, a, b, c);
         let y = load(t, n, o.y);
         let w = load(t, n, o.w);
         return double_turn(t, n, j, q, a, b, c, d, z, x, y, w);
     }
-    promote_four(t, n, row, j, q, a, b, c, d, z, x)
+    promote_four(t, n, row, j, q, a, b, c, d, o.y, z, x)
 }
 
 fn double_step(t: &mut [u32], n: u32, j: Job, q: Path, a: Links, b: Links, c: Links, d: Links, z: Rec, x: Rec, s: Rec) -> Outcome
