@@ -6,10 +6,10 @@ use Prim.Native.Nat.{ℕ, _≤_, _<_}
 use native.Mathlib.Omega.{arith}
 use lib.Dec.{leb, eqb}
 use borrow.Author.Tests.{leb-true, eqb-true, not-false}
-use Rattle.types.specs.declared.Rec.{Rec}
-use Rattle.types.specs.declared.Links.{Links}
-use Rattle.types.specs.declared.Path.{Path}
-use Rattle.types.specs.declared.Around.{Around}
+use Rattle.terms.specs.declared.Rec.{Rec}
+use Rattle.terms.specs.declared.Links.{Links}
+use Rattle.terms.specs.declared.Path.{Path}
+use Rattle.terms.specs.declared.Around.{Around}
 use Rattle.machine.specs.Record.{sentinel, numberFits, priceFits, fareMarks, innerMarks, isLeaf, isInner, plainForm, entryForm, wellFormed, linked, other}
 use Rattle.machine.specs.Table.{view}
 use Rattle.machine.specs.Rows.{aroundOf}

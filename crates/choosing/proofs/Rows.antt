@@ -3,21 +3,21 @@ use mathlib.Core.Path.{_≡_, refl}
 use mathlib.Core.Bool.{Bool, true, false, not}
 use mathlib.Core.List.{List}
 use Prim.Native.Nat.{ℕ, _≤_, _<_}
-use Rattle.types.specs.declared.Rec.{Rec}
-use Rattle.types.specs.declared.Links.{Links}
-use Rattle.types.specs.declared.Path.{Path}
-use Rattle.types.specs.declared.Job.{Job}
-use Rattle.types.specs.declared.Around.{Around}
-use Rattle.types.specs.declared.Goal.the-variants.{Settle}
-use Rattle.types.specs.declared.Phase.the-variants.{Start}
-use Rattle.types.specs.declared.SettleStage.{SettleStage}
-use Rattle.types.specs.declared.SettleStage.the-variants.{SettleGrand, SettleParent, SettleChoose, SettleRotate, SettleDouble}
-use Rattle.types.specs.declared.ParentRow.{ParentRow}
-use Rattle.types.specs.declared.LevelRow.{LevelRow}
-use Rattle.types.specs.declared.Turn.{Turn}
-use Rattle.types.specs.declared.Turn.the-variants.{Hurt, Next}
-use Rattle.types.specs.declared.Outcome.{Outcome}
-use Rattle.types.specs.Task.{busy}
+use Rattle.terms.specs.declared.Rec.{Rec}
+use Rattle.terms.specs.declared.Links.{Links}
+use Rattle.terms.specs.declared.Path.{Path}
+use Rattle.terms.specs.declared.Job.{Job}
+use Rattle.terms.specs.declared.Around.{Around}
+use Rattle.terms.specs.declared.Goal.the-variants.{Settle}
+use Rattle.terms.specs.declared.Phase.the-variants.{Start}
+use Rattle.terms.specs.declared.SettleStage.{SettleStage}
+use Rattle.terms.specs.declared.SettleStage.the-variants.{SettleGrand, SettleParent, SettleChoose, SettleRotate, SettleDouble}
+use Rattle.terms.specs.declared.ParentRow.{ParentRow}
+use Rattle.terms.specs.declared.LevelRow.{LevelRow}
+use Rattle.terms.specs.declared.Turn.{Turn}
+use Rattle.terms.specs.declared.Turn.the-variants.{Hurt, Next}
+use Rattle.terms.specs.declared.Outcome.{Outcome}
+use Rattle.terms.specs.Task.{busy}
 use Rattle.machine.specs.Choice.{ifB}
 use Rattle.machine.specs.Record.{other}
 use Rattle.machine.specs.Table.{view}

@@ -1,6 +1,6 @@
 // Records by value: the only crate that knows where a field stands. Reading a slot, the tests of a record, and the three writes.
-use types::Links;
-use types::Rec;
+use terms::Links;
+use terms::Rec;
 ghost use mathlib.Core.Path.{_≡_};
 ghost use Prim.Native.Nat.{_+_, _-_, _*_, _/_, _≤_, _<_};
 ghost use lib.ListN.{length};

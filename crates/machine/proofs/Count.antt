@@ -4,8 +4,8 @@ use mathlib.Core.List.{List}
 use Prim.Native.Nat.{ℕ, _+_}
 use native.Mathlib.Numerals.{add-one}
 use lib.ListN.{getD}
-use Rattle.types.specs.declared.Task.{Task}
-use Rattle.types.specs.Task.{idleTask, workSettles, isBusy}
+use Rattle.terms.specs.declared.Task.{Task}
+use Rattle.terms.specs.Task.{idleTask, workSettles, isBusy}
 use Rattle.machine.specs.State.{one, settling, busyTasks}
 
 pub none-settling : (ts : List Task) → 0 ≡ settling ts 0

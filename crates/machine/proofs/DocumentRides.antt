@@ -1,13 +1,13 @@
 -- The rides of second/rides/document.txt; made by second/to-proofs.
 use Prim.Native.Nat.{ℕ}
 use mathlib.Core.List.{List, [], _∷_}
-use Rattle.types.specs.declared.Operation.the-variants.{LookUp, PutIn, TakeOut}
-use Rattle.types.specs.declared.Goal.the-variants.{Serve, Settle}
-use Rattle.types.specs.declared.PutStage.the-variants.{PutParent, PutLeaf, PutCommit}
-use Rattle.types.specs.declared.TakeStage.the-variants.{TakeGrand, TakeParent, TakeLeft, TakeRight, TakeCommit}
-use Rattle.types.specs.declared.SettleStage.the-variants.{SettleGrand, SettleParent, SettleChoose, SettleRotate, SettleDouble}
-use Rattle.types.specs.declared.Phase.the-variants.{Start, Walk, PuttingIn, TakingOut, Settling}
-use Rattle.types.specs.Task.{idleTask}
+use Rattle.terms.specs.declared.Operation.the-variants.{LookUp, PutIn, TakeOut}
+use Rattle.terms.specs.declared.Goal.the-variants.{Serve, Settle}
+use Rattle.terms.specs.declared.PutStage.the-variants.{PutParent, PutLeaf, PutCommit}
+use Rattle.terms.specs.declared.TakeStage.the-variants.{TakeGrand, TakeParent, TakeLeft, TakeRight, TakeCommit}
+use Rattle.terms.specs.declared.SettleStage.the-variants.{SettleGrand, SettleParent, SettleChoose, SettleRotate, SettleDouble}
+use Rattle.terms.specs.declared.Phase.the-variants.{Start, Walk, PuttingIn, TakingOut, Settling}
+use Rattle.terms.specs.Task.{idleTask}
 use Rattle.machine.proofs.Ride.{Ride, anew, onward, beside, begin, step, abandon, tidy, figures, list, field, m-is, u-is, length-is, task-is, call, damage, same, left, rec, links, path, busy}
 
 unfoldable pub documentRides : List Ride

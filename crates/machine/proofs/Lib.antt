@@ -1,9 +1,11 @@
 pub mod Fibonacci
+pub mod Allowed
 pub mod Choice
 pub mod Scan
 pub mod Count
 pub mod Writes
 pub mod Tests
+pub mod Reach
 pub mod Ride
 pub mod DocumentRides
 pub mod OwnRides

@@ -1,13 +1,13 @@
 -- What a ride is: calls with their answers and step counts, damage from outside, and what is left after it.
 use Prim.Native.Nat.{ℕ}
 use mathlib.Core.List.{List}
-use Rattle.types.specs.declared.Rec.{Rec}
-use Rattle.types.specs.declared.Links.{Links}
-use Rattle.types.specs.declared.Path.{Path}
-use Rattle.types.specs.declared.Operation.{Operation}
-use Rattle.types.specs.declared.Phase.{Phase}
-use Rattle.types.specs.declared.Work.the-variants.{Busy}
-use Rattle.types.specs.declared.Task.{Task}
+use Rattle.terms.specs.declared.Rec.{Rec}
+use Rattle.terms.specs.declared.Links.{Links}
+use Rattle.terms.specs.declared.Path.{Path}
+use Rattle.terms.specs.declared.Operation.{Operation}
+use Rattle.terms.specs.declared.Phase.{Phase}
+use Rattle.terms.specs.declared.Work.the-variants.{Busy}
+use Rattle.terms.specs.declared.Task.{Task}
 
 -- where a ride starts: a reset of so many slots, the end of the ride before, or the start of the ride before
 pub data From : Type 0 where

@@ -5,33 +5,33 @@ use mathlib.Core.Bool.{Bool, true, false, _&&_, _||_, not}
 use mathlib.Core.List.{List, [], _∷_, _++_}
 use lib.Dec.{ltb, leb, eqb}
 use lib.ListN.{length, getD, set, take, drop, replicate}
-use Rattle.types.specs.declared.Rec.{Rec}
-use Rattle.types.specs.declared.Links.{Links}
-use Rattle.types.specs.declared.Path.{Path}
-use Rattle.types.specs.declared.Job.{Job}
-use Rattle.types.specs.declared.Operation.{Operation}
-use Rattle.types.specs.declared.Operation.the-variants.{LookUp, PutIn, TakeOut}
-use Rattle.types.specs.declared.Goal.{Goal}
-use Rattle.types.specs.declared.Goal.the-variants.{Serve, Settle}
-use Rattle.types.specs.declared.PutStage.{PutStage}
-use Rattle.types.specs.declared.PutStage.the-variants.{PutParent, PutLeaf, PutCommit}
-use Rattle.types.specs.declared.TakeStage.{TakeStage}
-use Rattle.types.specs.declared.TakeStage.the-variants.{TakeGrand, TakeParent, TakeLeft, TakeRight, TakeCommit}
-use Rattle.types.specs.declared.SettleStage.{SettleStage}
-use Rattle.types.specs.declared.SettleStage.the-variants.{SettleGrand, SettleParent, SettleChoose, SettleRotate, SettleDouble}
-use Rattle.types.specs.declared.Phase.{Phase}
-use Rattle.types.specs.declared.Phase.the-variants.{Start, Walk, PuttingIn, TakingOut, Settling}
-use Rattle.types.specs.declared.Work.{Work}
-use Rattle.types.specs.declared.Work.the-variants.{Idle, Busy}
-use Rattle.types.specs.declared.Task.{Task}
-use Rattle.types.specs.declared.State.{State}
-use Rattle.types.specs.declared.Figures.{Figures}
-use Rattle.types.specs.declared.Answer.{Answer}
+use Rattle.terms.specs.declared.Rec.{Rec}
+use Rattle.terms.specs.declared.Links.{Links}
+use Rattle.terms.specs.declared.Path.{Path}
+use Rattle.terms.specs.declared.Job.{Job}
+use Rattle.terms.specs.declared.Operation.{Operation}
+use Rattle.terms.specs.declared.Operation.the-variants.{LookUp, PutIn, TakeOut}
+use Rattle.terms.specs.declared.Goal.{Goal}
+use Rattle.terms.specs.declared.Goal.the-variants.{Serve, Settle}
+use Rattle.terms.specs.declared.PutStage.{PutStage}
+use Rattle.terms.specs.declared.PutStage.the-variants.{PutParent, PutLeaf, PutCommit}
+use Rattle.terms.specs.declared.TakeStage.{TakeStage}
+use Rattle.terms.specs.declared.TakeStage.the-variants.{TakeGrand, TakeParent, TakeLeft, TakeRight, TakeCommit}
+use Rattle.terms.specs.declared.SettleStage.{SettleStage}
+use Rattle.terms.specs.declared.SettleStage.the-variants.{SettleGrand, SettleParent, SettleChoose, SettleRotate, SettleDouble}
+use Rattle.terms.specs.declared.Phase.{Phase}
+use Rattle.terms.specs.declared.Phase.the-variants.{Start, Walk, PuttingIn, TakingOut, Settling}
+use Rattle.terms.specs.declared.Work.{Work}
+use Rattle.terms.specs.declared.Work.the-variants.{Idle, Busy}
+use Rattle.terms.specs.declared.Task.{Task}
+use Rattle.terms.specs.declared.State.{State}
+use Rattle.terms.specs.declared.Figures.{Figures}
+use Rattle.terms.specs.declared.Answer.{Answer}
 use Rattle.machine.specs.Choice.{ifB}
 use Rattle.machine.specs.Record.{inTree, sentinel, numberFits, priceFits, fareMarks, innerMarks, isLink, isLeaf, isInner, plainForm, entryForm, wellFormed, linked, level, isFare, leads, still, other}
 use Rattle.machine.specs.Table.{View, view, Write, fill, lead, off, place, slots, countFree, lengthFits, put, puts, freeFrom, free, slot1, slot2, slot3}
 use Rattle.machine.specs.Answers.{numberOf, priceOf}
-use Rattle.types.specs.Task.{idleTask, isBusy}
+use Rattle.terms.specs.Task.{idleTask, isBusy}
 use Rattle.machine.specs.State.{taskAt, withTask, freshState, settling, busyTasks, countOpen, sound, jobFits, askFits}
 use Rattle.machine.specs.Walk.{sought, atLeaf, serveArrival, outranks, settleArrival, arrival, walkTo, walkFrom, walkOn}
 use Rattle.machine.specs.Commit.{Did, reading, commitIf}
@@ -40,9 +40,10 @@ use Rattle.machine.specs.TakeOut.{takeApart, takeLeaf, takeGrounds, take
 use Rattle.machine.specs.Rows.{parentRow, levelRow, sided, linkAt, aroundOf, rotateWrites, doubleWrites}
 use Rattle.machine.specs.Settling.{readGrand, readParent, readOn, groundsTwo, groundsThree, groundsFour, testTwo, testThree, testFour, promoteDo, rotateDo, rotateTwoDo, doubleDo, rotateBy, doubleBy, promoteBy, commitTwo, commitThree, commitFour, chooseFormed, turnFormed, chooseBy, chooseStep, rotateOn, rotateTurn, rotateFirst, rotateStep, doubleTurn, doubleFirst, doubleStep, settleStep}
 use Rattle.machine.specs.Step.{Left, phaseStep, stepOf, carried, stepWork}
+use Rattle.machine.specs.Contract.{after}
 use Rattle.machine.specs.Reach.{reachable, reachFrom, reach, larger, deeper}
 use Rattle.machine.specs.Allowed.{fibonacci, atMost, allowedRank}
-use Rattle.machine.specs.Calls.{resetOf, beginOf, abandonOf, tidyOf, figuresOf, listOf, Listed, emptyTable, abandonWork, sweep, tidyReached, figuresReached, listReached}
+use Rattle.machine.specs.Calls.{resetOf, beginOf, abandonOf, tidyOf, figuresOf, listOf, Listed, emptyTable, abandonedOut, sweep, tidyReached, figuresReached, listReached}
 use Rattle.machine.specs.CallFile.{two, four, noJob, begins, steps as stepsRecord, abandons, tidies, byOperation, decode, runOf, serve, printed, lineOf, endLine, linesFrom, programOf}
 use Rattle.machine.proofs.Ride.{From, anew, onward, beside, Act, begin, step, abandon, tidy, figures, list, Hurting, field, m-is, u-is, length-is, task-is, Line, call, damage, Outcome, After, same, left, Ride, busy}
 use Rattle.machine.proofs.DocumentRides.{documentRides}
@@ -350,5 +351,5 @@ allPrint (f ∷ fs) = equalLines (programOf (f .bytes)) (f .lines) && allPrint f
 
 -- every ride and every call file comes out as it must
 rides-hold : T (allHold (documentRides ++ ownRides) nowhere nowhere && allPrint files)
-unfolding allHold nowhere documentRides ownRides allPrint files ifB inTree sentinel numberFits priceFits fareMarks innerMarks isLink isLeaf isInner plainForm entryForm wellFormed linked level isFare leads still place lengthFits view put puts freeFrom free slot1 slot2 slot3 countFree settling busyTasks countOpen sound jobFits askFits sought atLeaf serveArrival outranks settleArrival arrival walkTo walkFrom walkOn reading commitIf leafOf innerRank putGrounds putTest putWrites putTurn putRoom putLimit putCommit readPutParent readPutLeaf putStep takeApart takeLeaf takeGrounds takeTest takeRoom other takeCommit readTakeGrand readTakeParent readTakeLeft readTakeRight takeStep parentRow levelRow sided linkAt aroundOf rotateWrites doubleWrites readGrand readParent readOn groundsTwo groundsThree groundsFour testTwo testThree testFour promoteDo rotateDo rotateTwoDo doubleDo rotateBy doubleBy promoteBy commitTwo commitThree commitFour chooseFormed turnFormed chooseBy chooseStep rotateOn rotateTurn rotateFirst rotateStep doubleTurn doubleFirst doubleStep settleStep phaseStep carried stepWork stepOf reachable reachFrom reach larger deeper fibonacci atMost allowedRank emptyTable resetOf beginOf abandonWork abandonOf sweep tidyReached tidyOf figuresReached figuresOf listReached listOf two four noJob begins stepsRecord abandons tidies byOperation decode runOf serve printed lineOf endLine linesFrom programOf
+unfolding allHold nowhere documentRides ownRides allPrint files ifB inTree sentinel numberFits priceFits fareMarks innerMarks isLink isLeaf isInner plainForm entryForm wellFormed linked level isFare leads still place lengthFits view put puts freeFrom free slot1 slot2 slot3 countFree settling busyTasks countOpen sound jobFits askFits sought atLeaf serveArrival outranks settleArrival arrival walkTo walkFrom walkOn reading commitIf leafOf innerRank putGrounds putTest putWrites putTurn putRoom putLimit putCommit readPutParent readPutLeaf putStep takeApart takeLeaf takeGrounds takeTest takeRoom other takeCommit readTakeGrand readTakeParent readTakeLeft readTakeRight takeStep parentRow levelRow sided linkAt aroundOf rotateWrites doubleWrites readGrand readParent readOn groundsTwo groundsThree groundsFour testTwo testThree testFour promoteDo rotateDo rotateTwoDo doubleDo rotateBy doubleBy promoteBy commitTwo commitThree commitFour chooseFormed turnFormed chooseBy chooseStep rotateOn rotateTurn rotateFirst rotateStep doubleTurn doubleFirst doubleStep settleStep phaseStep carried stepWork stepOf after reachable reachFrom reach larger deeper fibonacci atMost allowedRank emptyTable resetOf beginOf abandonedOut abandonOf sweep tidyReached tidyOf figuresReached figuresOf listReached listOf two four noJob begins stepsRecord abandons tidies byOperation decode runOf serve printed lineOf endLine linesFrom programOf
 rides-hold = tt

@@ -6,7 +6,7 @@ use Prim.Native.Nat.{ℕ, _+_, _*_, _/_, _%_, _≤_, _<_}
 use native.Mathlib.Omega.{arith}
 use lib.Dec.{ltb, leb, eqb}
 use borrow.Author.Tests.{ltb-true, leb-true, eqb-true, not-false}
-use Rattle.types.specs.declared.Rec.{Rec}
+use Rattle.terms.specs.declared.Rec.{Rec}
 use Rattle.machine.specs.Choice.{ifB}
 use Rattle.machine.specs.Record.{wellFormed, linked}
 use Rattle.machine.specs.Table.{view, lengthFits}

@@ -3,8 +3,8 @@ use mathlib.Core.Path.{_≡_, refl}
 use mathlib.Core.Bool.{false}
 use mathlib.Core.List.{List, [], _∷_}
 use Prim.Native.Nat.{ℕ}
-use Rattle.types.specs.declared.Turn.{Turn}
-use Rattle.types.specs.declared.Outcome.{Outcome}
+use Rattle.terms.specs.declared.Turn.{Turn}
+use Rattle.terms.specs.declared.Outcome.{Outcome}
 use Rattle.machine.specs.Table.{Write, put, puts}
 use Rattle.machine.specs.Commit.{Did, calm}
 use Rattle.machine.specs.Contract.{acted, played}

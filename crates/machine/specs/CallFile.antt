@@ -4,15 +4,15 @@ use mathlib.Core.Bool.{Bool, true, false, _&&_, not}
 use mathlib.Core.List.{List, [], _∷_}
 use lib.Dec.{ltb, leb, eqb}
 use lib.ListN.{length, getD, take, drop, replicate}
-use Rattle.types.specs.declared.Job.{Job}
-use Rattle.types.specs.declared.Operation.{Operation}
-use Rattle.types.specs.declared.Operation.the-variants.{LookUp, PutIn, TakeOut}
-use Rattle.types.specs.declared.State.{State}
-use Rattle.types.specs.declared.Figures.{Figures}
-use Rattle.types.specs.declared.Answer.{Answer}
-use Rattle.types.specs.declared.Answer.the-variants.{Accepted, BadRecord}
-use Rattle.types.specs.declared.Call.{Call}
-use Rattle.types.specs.declared.Call.the-variants.{Begin, Steps, Abandon, Tidy, Bad}
+use Rattle.terms.specs.declared.Job.{Job}
+use Rattle.terms.specs.declared.Operation.{Operation}
+use Rattle.terms.specs.declared.Operation.the-variants.{LookUp, PutIn, TakeOut}
+use Rattle.terms.specs.declared.State.{State}
+use Rattle.terms.specs.declared.Figures.{Figures}
+use Rattle.terms.specs.declared.Answer.{Answer}
+use Rattle.terms.specs.declared.Answer.the-variants.{Accepted, BadRecord}
+use Rattle.terms.specs.declared.Call.{Call}
+use Rattle.terms.specs.declared.Call.the-variants.{Begin, Steps, Abandon, Tidy, Bad}
 use Rattle.machine.specs.Choice.{ifB}
 use Rattle.machine.specs.Answers.{numberOf, priceOf}
 use Rattle.machine.specs.State.{freshState}

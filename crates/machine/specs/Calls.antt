@@ -4,22 +4,24 @@ use mathlib.Core.Bool.{Bool, true, false, _&&_, not}
 use mathlib.Core.List.{List, [], _∷_, _++_}
 use lib.Dec.{ltb, leb, eqb}
 use lib.ListN.{length, getD, drop, replicate, set}
-use Rattle.types.specs.declared.Rec.{Rec}
-use Rattle.types.specs.declared.Job.{Job}
-use Rattle.types.specs.declared.Operation.{Operation}
-use Rattle.types.specs.declared.Work.{Work}
-use Rattle.types.specs.declared.State.{State}
-use Rattle.types.specs.declared.Figures.{Figures}
-use Rattle.types.specs.declared.Report.{Report}
-use Rattle.types.specs.declared.Answer.{Answer}
-use Rattle.types.specs.declared.Answer.the-variants.{Accepted, PutUnsettled, TaskNumber, OutOfRange, TaskBusy, TaskIdle, SomeBusy, NoRoom, Damaged, Length}
+use Rattle.terms.specs.declared.Rec.{Rec}
+use Rattle.terms.specs.declared.Job.{Job}
+use Rattle.terms.specs.declared.Operation.{Operation}
+use Rattle.terms.specs.declared.Task.{Task}
+use Rattle.terms.specs.declared.Out.{Out}
+use Rattle.terms.specs.declared.State.{State}
+use Rattle.terms.specs.declared.Figures.{Figures}
+use Rattle.terms.specs.declared.Report.{Report}
+use Rattle.terms.specs.declared.Answer.{Answer}
+use Rattle.terms.specs.declared.Answer.the-variants.{Accepted, PutUnsettled, TaskNumber, OutOfRange, TaskBusy, TaskIdle, SomeBusy, NoRoom, Damaged, Length}
 use Rattle.machine.specs.Choice.{ifB}
 use Rattle.machine.specs.Record.{topNumber, freeRec}
 use Rattle.machine.specs.Table.{View, view, Write, fill, puts, lengthFits, slots, countFree}
-use Rattle.types.specs.Task.{idleTask, begun, abandoned, isBusy, workSettles}
+use Rattle.terms.specs.Task.{idleTask, begun, abandoned, isBusy, workSettles}
 use Rattle.machine.specs.State.{taskAt, withTask, one, busyTasks, countOpen, sound, askFits, freshState}
 use Rattle.machine.specs.PutIn.{leafOf, innerOf}
-use Rattle.machine.specs.Step.{Left, same}
+use Rattle.machine.specs.Step.{Left, same, counted}
+use Rattle.machine.specs.Contract.{after}
 use Rattle.machine.specs.Reach.{Tree, Reached, hurt, reached, reach, levels, countFares, fareList, heightOf}
 use Rattle.machine.specs.Allowed.{allowedRank}
 
@@ -47,11 +49,11 @@ beginOf t st i o j =
     (same t (withTask st i (begun o j)) Accepted)))))
 
 -- "Abandon makes the task idle; it answers 6 (u one more) if the task was settling, otherwise 0." Refusals 18, 10, 13, 17
-unfoldable pub abandonWork : List ℕ → State → ℕ → Work → Left
-abandonWork t st i w =
-    ifB (workSettles w)
-    (same t (record { tasks = set (st .tasks) i (abandoned (taskAt st i)); m = st .m; u = st .u + 1 }) PutUnsettled)
-    (same t (withTask st i (abandoned (taskAt st i))) Accepted)
+unfoldable pub abandonedOut : State → ℕ → Task → Out
+abandonedOut st i k =
+    ifB (workSettles (k .work))
+    (record { state = counted st i (abandoned k) 0 1; answer = PutUnsettled })
+    (record { state = withTask st i (abandoned k); answer = Accepted })
 
 unfoldable pub abandonOf : List ℕ → State → ℕ → Left
 abandonOf t st i =
@@ -59,7 +61,7 @@ abandonOf t st i =
     (ifB (ltb 7 i) (same t st TaskNumber)
     (ifB (not (isBusy (taskAt st i .work))) (same t st TaskIdle)
     (ifB (not (sound st)) (same t st Damaged)
-    (abandonWork t st i (taskAt st i .work)))))
+    (after t (abandonedOut st i (taskAt st i))))))
 
 -- "sets every slot not reachable from the entry to zero": the slots from s on, with d of them to look at, by their marks
 unfoldable pub sweep : List ℕ → ℕ → ℕ → List Write

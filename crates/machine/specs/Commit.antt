@@ -2,14 +2,14 @@
 use Prim.Native.Nat.{ℕ}
 use mathlib.Core.Bool.{Bool, true, false, not}
 use mathlib.Core.List.{List, []}
-use Rattle.types.specs.declared.Rec.{Rec}
-use Rattle.types.specs.declared.Task.{Task}
-use Rattle.types.specs.declared.Turn.{Turn}
-use Rattle.types.specs.declared.Turn.the-variants.{Hurt, Next, Done}
+use Rattle.terms.specs.declared.Rec.{Rec}
+use Rattle.terms.specs.declared.Task.{Task}
+use Rattle.terms.specs.declared.Turn.{Turn}
+use Rattle.terms.specs.declared.Turn.the-variants.{Hurt, Next, Done}
 use Rattle.machine.specs.Choice.{ifB}
 use Rattle.machine.specs.Record.{linksOf}
 use Rattle.machine.specs.Table.{Write}
-use Rattle.types.specs.Task.{noted, restarted}
+use Rattle.terms.specs.Task.{noted, restarted}
 
 -- "If the record is in state 2, or has a next remembered record to which neither noted link leads, the task starts its walk again":
 -- `formed` says that the record read is there and well formed, `good` that it is in the tree and leads on

@@ -4,10 +4,10 @@ use mathlib.Core.Path.{_≡_}
 use mathlib.Core.Bool.{Bool}
 use mathlib.Core.List.{List}
 use lib.ListN.{length}
-use Rattle.types.specs.declared.State.{State}
-use Rattle.types.specs.declared.Turn.{Turn}
-use Rattle.types.specs.declared.Out.{Out}
-use Rattle.types.specs.declared.Outcome.{Outcome}
+use Rattle.terms.specs.declared.State.{State}
+use Rattle.terms.specs.declared.Turn.{Turn}
+use Rattle.terms.specs.declared.Out.{Out}
+use Rattle.terms.specs.declared.Outcome.{Outcome}
 use Rattle.machine.specs.Table.{width, puts}
 use Rattle.machine.specs.Commit.{Did}
 use Rattle.machine.specs.Step.{Left, turned, answered}

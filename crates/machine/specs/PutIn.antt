@@ -3,21 +3,21 @@ use Prim.Native.Nat.{ℕ}
 use mathlib.Core.Bool.{Bool, true, false, _&&_, not}
 use mathlib.Core.List.{List, [], _∷_}
 use lib.Dec.{ltb, leb, eqb}
-use Rattle.types.specs.declared.Rec.{Rec}
-use Rattle.types.specs.declared.Links.{Links}
-use Rattle.types.specs.declared.Path.{Path}
-use Rattle.types.specs.declared.Job.{Job}
-use Rattle.types.specs.declared.Goal.the-variants.{Settle}
-use Rattle.types.specs.declared.PutStage.{PutStage}
-use Rattle.types.specs.declared.PutStage.the-variants.{PutParent, PutLeaf, PutCommit}
-use Rattle.types.specs.declared.Phase.the-variants.{Start, PuttingIn}
-use Rattle.types.specs.declared.Answer.the-variants.{PutSettled, NoRoom, Limit}
-use Rattle.types.specs.declared.Turn.{Turn}
-use Rattle.types.specs.declared.Turn.the-variants.{Next, Done}
+use Rattle.terms.specs.declared.Rec.{Rec}
+use Rattle.terms.specs.declared.Links.{Links}
+use Rattle.terms.specs.declared.Path.{Path}
+use Rattle.terms.specs.declared.Job.{Job}
+use Rattle.terms.specs.declared.Goal.the-variants.{Settle}
+use Rattle.terms.specs.declared.PutStage.{PutStage}
+use Rattle.terms.specs.declared.PutStage.the-variants.{PutParent, PutLeaf, PutCommit}
+use Rattle.terms.specs.declared.Phase.the-variants.{Start, PuttingIn}
+use Rattle.terms.specs.declared.Answer.the-variants.{PutSettled, NoRoom, Limit}
+use Rattle.terms.specs.declared.Turn.{Turn}
+use Rattle.terms.specs.declared.Turn.the-variants.{Next, Done}
 use Rattle.machine.specs.Choice.{ifB}
 use Rattle.machine.specs.Record.{wellFormed, linked, isLeaf, inTree, leads, linksOf, still, topNumber}
 use Rattle.machine.specs.Table.{View, Write, fill, lead, off, slot1, slot2, slot3}
-use Rattle.types.specs.Task.{busy}
+use Rattle.terms.specs.Task.{busy}
 use Rattle.machine.specs.Commit.{reading, Did, calm, commitIf}
 
 -- "A fare's leaf has rank 0 and its price, a sentinel's rank 255."

@@ -4,7 +4,7 @@ use mathlib.Core.Bool.{Bool, true, false, _&&_, not}
 use mathlib.Core.List.{List, [], _∷_, _++_}
 use lib.Dec.{leb, eqb}
 use lib.ListN.{getD, set, replicate}
-use Rattle.types.specs.declared.Rec.{Rec}
+use Rattle.terms.specs.declared.Rec.{Rec}
 use Rattle.machine.specs.Choice.{ifB}
 use Rattle.machine.specs.Record.{wellFormed, linked, inTree, isLeaf, isFare, level}
 use Rattle.machine.specs.Table.{View}

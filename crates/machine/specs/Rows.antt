@@ -3,17 +3,17 @@ use Prim.Native.Nat.{ℕ, _+_, _-_}
 use mathlib.Core.Bool.{Bool, true, false, _&&_, _||_, not}
 use mathlib.Core.List.{List, [], _∷_}
 use lib.Dec.{ltb, leb, eqb}
-use Rattle.types.specs.declared.Rec.{Rec}
-use Rattle.types.specs.declared.Links.{Links}
-use Rattle.types.specs.declared.Path.{Path}
-use Rattle.types.specs.declared.ParentRow.{ParentRow}
-use Rattle.types.specs.declared.ParentRow.the-variants.{Outranked, Promote, Wider}
-use Rattle.types.specs.declared.LevelRow.{LevelRow}
-use Rattle.types.specs.declared.LevelRow.the-variants.{NoRow, RotateOne, RotateTwo, DoubleRotation}
+use Rattle.terms.specs.declared.Rec.{Rec}
+use Rattle.terms.specs.declared.Links.{Links}
+use Rattle.terms.specs.declared.Path.{Path}
+use Rattle.terms.specs.declared.ParentRow.{ParentRow}
+use Rattle.terms.specs.declared.ParentRow.the-variants.{Outranked, Promote, Wider}
+use Rattle.terms.specs.declared.LevelRow.{LevelRow}
+use Rattle.terms.specs.declared.LevelRow.the-variants.{NoRow, RotateOne, RotateTwo, DoubleRotation}
 use Rattle.machine.specs.Choice.{ifB}
 use Rattle.machine.specs.Record.{other}
 use Rattle.machine.specs.Table.{Write, fill, lead, off}
-use Rattle.types.specs.declared.Around.{Around}
+use Rattle.terms.specs.declared.Around.{Around}
 use Rattle.machine.specs.PutIn.{innerOf}
 
 -- "z minus s is 0 or 1": promote; "at least 2": a rotation; 17: "s outranks z"

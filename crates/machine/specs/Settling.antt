@@ -3,27 +3,27 @@ use Prim.Native.Nat.{ℕ, _+_, _-_}
 use mathlib.Core.Bool.{Bool, true, false, _&&_, not}
 use mathlib.Core.List.{List, [], _∷_}
 use lib.Dec.{ltb, leb, eqb}
-use Rattle.types.specs.declared.Rec.{Rec}
-use Rattle.types.specs.declared.Links.{Links}
-use Rattle.types.specs.declared.Path.{Path}
-use Rattle.types.specs.declared.Job.{Job}
-use Rattle.types.specs.declared.Goal.the-variants.{Settle}
-use Rattle.types.specs.declared.SettleStage.{SettleStage}
-use Rattle.types.specs.declared.SettleStage.the-variants.{SettleGrand, SettleParent, SettleChoose, SettleRotate, SettleDouble}
-use Rattle.types.specs.declared.Phase.the-variants.{Start, Settling}
-use Rattle.types.specs.declared.Answer.the-variants.{PutUnsettled}
-use Rattle.types.specs.declared.Turn.{Turn}
-use Rattle.types.specs.declared.Turn.the-variants.{Hurt, Next, Done}
-use Rattle.types.specs.declared.ParentRow.{ParentRow}
-use Rattle.types.specs.declared.ParentRow.the-variants.{Outranked, Promote, Wider}
-use Rattle.types.specs.declared.LevelRow.{LevelRow}
-use Rattle.types.specs.declared.LevelRow.the-variants.{NoRow, RotateOne, RotateTwo, DoubleRotation}
+use Rattle.terms.specs.declared.Rec.{Rec}
+use Rattle.terms.specs.declared.Links.{Links}
+use Rattle.terms.specs.declared.Path.{Path}
+use Rattle.terms.specs.declared.Job.{Job}
+use Rattle.terms.specs.declared.Goal.the-variants.{Settle}
+use Rattle.terms.specs.declared.SettleStage.{SettleStage}
+use Rattle.terms.specs.declared.SettleStage.the-variants.{SettleGrand, SettleParent, SettleChoose, SettleRotate, SettleDouble}
+use Rattle.terms.specs.declared.Phase.the-variants.{Start, Settling}
+use Rattle.terms.specs.declared.Answer.the-variants.{PutUnsettled}
+use Rattle.terms.specs.declared.Turn.{Turn}
+use Rattle.terms.specs.declared.Turn.the-variants.{Hurt, Next, Done}
+use Rattle.terms.specs.declared.ParentRow.{ParentRow}
+use Rattle.terms.specs.declared.ParentRow.the-variants.{Outranked, Promote, Wider}
+use Rattle.terms.specs.declared.LevelRow.{LevelRow}
+use Rattle.terms.specs.declared.LevelRow.the-variants.{NoRow, RotateOne, RotateTwo, DoubleRotation}
 use Rattle.machine.specs.Choice.{ifB}
 use Rattle.machine.specs.Record.{wellFormed, linked, inTree, leads, linksOf, still, level, other}
 use Rattle.machine.specs.Table.{View, Write, slot1, slot2, slot3}
-use Rattle.types.specs.Task.{busy}
+use Rattle.terms.specs.Task.{busy}
 use Rattle.machine.specs.Commit.{reading, Did, calm, commitIf}
-use Rattle.types.specs.declared.Around.{Around}
+use Rattle.terms.specs.declared.Around.{Around}
 use Rattle.machine.specs.Rows.{parentRow, levelRow, aroundOf, promoteWrites, rotateWrites, doubleWrites}
 
 -- "it reads pz (grandparent), z (parent) and, for a rotation, x (the level record), each a step in this order"; "also reads y, last"

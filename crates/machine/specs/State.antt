@@ -4,13 +4,13 @@ use mathlib.Core.Bool.{Bool, true, false, _&&_, _||_}
 use mathlib.Core.List.{List}
 use lib.Dec.{leb, eqb}
 use lib.ListN.{getD, set, replicate}
-use Rattle.types.specs.declared.Job.{Job}
-use Rattle.types.specs.declared.Operation.{Operation}
-use Rattle.types.specs.declared.Operation.the-variants.{LookUp, PutIn, TakeOut}
-use Rattle.types.specs.declared.Task.{Task}
-use Rattle.types.specs.declared.State.{State}
+use Rattle.terms.specs.declared.Job.{Job}
+use Rattle.terms.specs.declared.Operation.{Operation}
+use Rattle.terms.specs.declared.Operation.the-variants.{LookUp, PutIn, TakeOut}
+use Rattle.terms.specs.declared.Task.{Task}
+use Rattle.terms.specs.declared.State.{State}
 use Rattle.machine.specs.Record.{numberFits, priceFits}
-use Rattle.types.specs.Task.{idleTask, busy, workSettles, isBusy}
+use Rattle.terms.specs.Task.{idleTask, busy, workSettles, isBusy}
 
 abbrev pub taskAt : State → ℕ → Task
 taskAt st i = getD (st .tasks) i idleTask

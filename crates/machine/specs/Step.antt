@@ -4,21 +4,21 @@ use mathlib.Core.Bool.{Bool, true, false, _&&_, not}
 use mathlib.Core.List.{List}
 use lib.Dec.{ltb, eqb}
 use lib.ListN.{length, set}
-use Rattle.types.specs.declared.Job.{Job}
-use Rattle.types.specs.declared.Phase.{Phase}
-use Rattle.types.specs.declared.Phase.the-variants.{Start, Walk, PuttingIn, TakingOut, Settling}
-use Rattle.types.specs.declared.Work.{Work}
-use Rattle.types.specs.declared.Work.the-variants.{Idle, Busy}
-use Rattle.types.specs.declared.Task.{Task}
-use Rattle.types.specs.declared.State.{State}
-use Rattle.types.specs.declared.Answer.{Answer}
-use Rattle.types.specs.declared.Answer.the-variants.{Accepted, TaskNumber, TaskIdle, Damaged, Length}
-use Rattle.types.specs.declared.Turn.{Turn}
-use Rattle.types.specs.declared.Turn.the-variants.{Hurt, Next, Done}
+use Rattle.terms.specs.declared.Job.{Job}
+use Rattle.terms.specs.declared.Phase.{Phase}
+use Rattle.terms.specs.declared.Phase.the-variants.{Start, Walk, PuttingIn, TakingOut, Settling}
+use Rattle.terms.specs.declared.Work.{Work}
+use Rattle.terms.specs.declared.Work.the-variants.{Idle, Busy}
+use Rattle.terms.specs.declared.Task.{Task}
+use Rattle.terms.specs.declared.State.{State}
+use Rattle.terms.specs.declared.Answer.{Answer}
+use Rattle.terms.specs.declared.Answer.the-variants.{Accepted, TaskNumber, TaskIdle, Damaged, Length}
+use Rattle.terms.specs.declared.Turn.{Turn}
+use Rattle.terms.specs.declared.Turn.the-variants.{Hurt, Next, Done}
 use Rattle.machine.specs.Choice.{ifB}
 use Rattle.machine.specs.Answers.{numberOf}
 use Rattle.machine.specs.Table.{View, view, puts, lengthFits, slots}
-use Rattle.types.specs.Task.{idleTask, noGrand}
+use Rattle.terms.specs.Task.{idleTask, noGrand}
 use Rattle.machine.specs.State.{taskAt, one, sound, jobFits}
 use Rattle.machine.specs.Walk.{walkFrom, walkOn}
 use Rattle.machine.specs.Commit.{Did, calm}

@@ -4,7 +4,7 @@ use mathlib.Core.Bool.{Bool, true, false, _&&_}
 use mathlib.Core.List.{List, [], _∷_}
 use lib.Dec.{ltb, leb, eqb}
 use lib.ListN.{length, getD, set}
-use Rattle.types.specs.declared.Rec.{Rec}
+use Rattle.terms.specs.declared.Rec.{Rec}
 use Rattle.machine.specs.Choice.{ifB}
 use Rattle.machine.specs.Record.{freeRec}
 

@@ -3,20 +3,20 @@ use Prim.Native.Nat.{ℕ}
 use mathlib.Core.Bool.{Bool, true, false, _&&_, not}
 use mathlib.Core.List.{List, [], _∷_}
 use lib.Dec.{leb, eqb}
-use Rattle.types.specs.declared.Rec.{Rec}
-use Rattle.types.specs.declared.Links.{Links}
-use Rattle.types.specs.declared.Path.{Path}
-use Rattle.types.specs.declared.Job.{Job}
-use Rattle.types.specs.declared.TakeStage.{TakeStage}
-use Rattle.types.specs.declared.TakeStage.the-variants.{TakeGrand, TakeParent, TakeLeft, TakeRight, TakeCommit}
-use Rattle.types.specs.declared.Phase.the-variants.{TakingOut}
-use Rattle.types.specs.declared.Answer.the-variants.{TakenOut, NoRoom}
-use Rattle.types.specs.declared.Turn.{Turn}
-use Rattle.types.specs.declared.Turn.the-variants.{Done}
+use Rattle.terms.specs.declared.Rec.{Rec}
+use Rattle.terms.specs.declared.Links.{Links}
+use Rattle.terms.specs.declared.Path.{Path}
+use Rattle.terms.specs.declared.Job.{Job}
+use Rattle.terms.specs.declared.TakeStage.{TakeStage}
+use Rattle.terms.specs.declared.TakeStage.the-variants.{TakeGrand, TakeParent, TakeLeft, TakeRight, TakeCommit}
+use Rattle.terms.specs.declared.Phase.the-variants.{TakingOut}
+use Rattle.terms.specs.declared.Answer.the-variants.{TakenOut, NoRoom}
+use Rattle.terms.specs.declared.Turn.{Turn}
+use Rattle.terms.specs.declared.Turn.the-variants.{Done}
 use Rattle.machine.specs.Choice.{ifB}
 use Rattle.machine.specs.Record.{wellFormed, linked, isLeaf, inTree, leads, linksOf, still, other}
 use Rattle.machine.specs.Table.{View, Write, fill, lead, off, slot1}
-use Rattle.types.specs.Task.{busy}
+use Rattle.terms.specs.Task.{busy}
 use Rattle.machine.specs.Commit.{reading, Did, calm, commitIf}
 
 -- 17: "two of the records read are one and the same"

@@ -2,24 +2,24 @@
 use Prim.Native.Nat.{ℕ}
 use mathlib.Core.Bool.{Bool, true, false, not}
 use lib.Dec.{ltb, eqb}
-use Rattle.types.specs.declared.Rec.{Rec}
-use Rattle.types.specs.declared.Path.{Path}
-use Rattle.types.specs.declared.Job.{Job}
-use Rattle.types.specs.declared.Turn.{Turn}
-use Rattle.types.specs.declared.Turn.the-variants.{Hurt, Next, Done}
-use Rattle.types.specs.declared.Operation.{Operation}
-use Rattle.types.specs.declared.Operation.the-variants.{LookUp, PutIn, TakeOut}
-use Rattle.types.specs.declared.Goal.{Goal}
-use Rattle.types.specs.declared.Goal.the-variants.{Serve, Settle}
-use Rattle.types.specs.declared.PutStage.the-variants.{PutParent}
-use Rattle.types.specs.declared.TakeStage.the-variants.{TakeGrand}
-use Rattle.types.specs.declared.SettleStage.the-variants.{SettleGrand}
-use Rattle.types.specs.declared.Phase.the-variants.{Walk, PuttingIn, TakingOut, Settling}
-use Rattle.types.specs.declared.Answer.the-variants.{Found, NotHeld, PutSettled, HeldAlready}
+use Rattle.terms.specs.declared.Rec.{Rec}
+use Rattle.terms.specs.declared.Path.{Path}
+use Rattle.terms.specs.declared.Job.{Job}
+use Rattle.terms.specs.declared.Turn.{Turn}
+use Rattle.terms.specs.declared.Turn.the-variants.{Hurt, Next, Done}
+use Rattle.terms.specs.declared.Operation.{Operation}
+use Rattle.terms.specs.declared.Operation.the-variants.{LookUp, PutIn, TakeOut}
+use Rattle.terms.specs.declared.Goal.{Goal}
+use Rattle.terms.specs.declared.Goal.the-variants.{Serve, Settle}
+use Rattle.terms.specs.declared.PutStage.the-variants.{PutParent}
+use Rattle.terms.specs.declared.TakeStage.the-variants.{TakeGrand}
+use Rattle.terms.specs.declared.SettleStage.the-variants.{SettleGrand}
+use Rattle.terms.specs.declared.Phase.the-variants.{Walk, PuttingIn, TakingOut, Settling}
+use Rattle.terms.specs.declared.Answer.the-variants.{Found, NotHeld, PutSettled, HeldAlready}
 use Rattle.machine.specs.Choice.{ifB}
 use Rattle.machine.specs.Record.{wellFormed, linked, isLeaf, level}
 use Rattle.machine.specs.Table.{View}
-use Rattle.types.specs.Task.{busy}
+use Rattle.terms.specs.Task.{busy}
 
 -- "A search goes left if the number sought is below the record's number, otherwise right."
 unfoldable pub sought : ℕ → Rec → ℕ

@@ -5,21 +5,21 @@ use mathlib.Core.List.{List}
 use Prim.Native.Nat.{ℕ, _+_, _≤_, _<_}
 use lib.Dec.{eqb}
 use borrow.Author.Tests.{le-leb, lt-leb, not-false}
-use Rattle.types.specs.declared.Rec.{Rec}
-use Rattle.types.specs.declared.Links.{Links}
-use Rattle.types.specs.declared.Path.{Path}
-use Rattle.types.specs.declared.Job.{Job}
-use Rattle.types.specs.declared.Operation.the-variants.{PutIn}
-use Rattle.types.specs.declared.Goal.the-variants.{Serve}
-use Rattle.types.specs.declared.PutStage.{PutStage}
-use Rattle.types.specs.declared.PutStage.the-variants.{PutParent, PutLeaf, PutCommit}
-use Rattle.types.specs.declared.Phase.the-variants.{Start}
-use Rattle.types.specs.declared.Task.{Task}
-use Rattle.types.specs.declared.Turn.{Turn}
-use Rattle.types.specs.declared.Turn.the-variants.{Hurt, Next, Done}
-use Rattle.types.specs.declared.Outcome.{Outcome}
-use Rattle.types.specs.declared.Answer.the-variants.{Limit, NoRoom}
-use Rattle.types.specs.Task.{busy}
+use Rattle.terms.specs.declared.Rec.{Rec}
+use Rattle.terms.specs.declared.Links.{Links}
+use Rattle.terms.specs.declared.Path.{Path}
+use Rattle.terms.specs.declared.Job.{Job}
+use Rattle.terms.specs.declared.Operation.the-variants.{PutIn}
+use Rattle.terms.specs.declared.Goal.the-variants.{Serve}
+use Rattle.terms.specs.declared.PutStage.{PutStage}
+use Rattle.terms.specs.declared.PutStage.the-variants.{PutParent, PutLeaf, PutCommit}
+use Rattle.terms.specs.declared.Phase.the-variants.{Start}
+use Rattle.terms.specs.declared.Task.{Task}
+use Rattle.terms.specs.declared.Turn.{Turn}
+use Rattle.terms.specs.declared.Turn.the-variants.{Hurt, Next, Done}
+use Rattle.terms.specs.declared.Outcome.{Outcome}
+use Rattle.terms.specs.declared.Answer.the-variants.{Limit, NoRoom}
+use Rattle.terms.specs.Task.{busy}
 use Rattle.room.specs.declared.Triple.{Triple}
 use Rattle.room.specs.Found.{ThreeSlots}
 use Rattle.machine.specs.Choice.{ifB}

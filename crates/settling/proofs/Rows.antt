@@ -5,18 +5,18 @@ use mathlib.Core.List.{List}
 use Prim.Native.Nat.{ℕ, _+_, _-_, _≤_, _<_}
 use lib.Dec.{eqb}
 use borrow.Author.Tests.{le-leb, lt-leb}
-use Rattle.types.specs.declared.Rec.{Rec}
-use Rattle.types.specs.declared.Links.{Links}
-use Rattle.types.specs.declared.Path.{Path}
-use Rattle.types.specs.declared.Job.{Job}
-use Rattle.types.specs.declared.Around.{Around}
-use Rattle.types.specs.declared.ParentRow.{ParentRow}
-use Rattle.types.specs.declared.ParentRow.the-variants.{Outranked, Promote, Wider}
-use Rattle.types.specs.declared.LevelRow.{LevelRow}
-use Rattle.types.specs.declared.LevelRow.the-variants.{NoRow, RotateOne, RotateTwo, DoubleRotation}
-use Rattle.types.specs.declared.Turn.the-variants.{Hurt, Done}
-use Rattle.types.specs.declared.Outcome.{Outcome}
-use Rattle.types.specs.declared.Answer.the-variants.{PutUnsettled}
+use Rattle.terms.specs.declared.Rec.{Rec}
+use Rattle.terms.specs.declared.Links.{Links}
+use Rattle.terms.specs.declared.Path.{Path}
+use Rattle.terms.specs.declared.Job.{Job}
+use Rattle.terms.specs.declared.Around.{Around}
+use Rattle.terms.specs.declared.ParentRow.{ParentRow}
+use Rattle.terms.specs.declared.ParentRow.the-variants.{Outranked, Promote, Wider}
+use Rattle.terms.specs.declared.LevelRow.{LevelRow}
+use Rattle.terms.specs.declared.LevelRow.the-variants.{NoRow, RotateOne, RotateTwo, DoubleRotation}
+use Rattle.terms.specs.declared.Turn.the-variants.{Hurt, Done}
+use Rattle.terms.specs.declared.Outcome.{Outcome}
+use Rattle.terms.specs.declared.Answer.the-variants.{PutUnsettled}
 use Rattle.room.specs.declared.Pair.{Pair}
 use Rattle.room.specs.declared.Triple.{Triple}
 use Rattle.room.specs.Found.{TwoSlots, ThreeSlots}

@@ -1,12 +1,12 @@
 // The state by value: the counts over its eight tasks, its soundness, and a task's turn stored in it.
-use types::Answer;
-use types::Job;
-use types::Operation;
-use types::Out;
-use types::State;
-use types::Task;
-use types::Turn;
-use types::Work;
+use terms::Answer;
+use terms::Job;
+use terms::Operation;
+use terms::Out;
+use terms::State;
+use terms::Task;
+use terms::Turn;
+use terms::Work;
 ghost use mathlib.Core.Path.{_≡_};
 ghost use mathlib.Core.Bool.{_&&_};
 ghost use Prim.Native.Nat.{_+_, _-_, _*_, _≤_, _<_};

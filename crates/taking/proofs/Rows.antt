@@ -6,21 +6,21 @@ use Prim.Native.Nat.{ℕ, _+_, _≤_, _<_}
 use native.Mathlib.Omega.{arith}
 use lib.Dec.{eqb}
 use borrow.Author.Tests.{le-leb, lt-leb, not-false, eqb-true}
-use Rattle.types.specs.declared.Rec.{Rec}
-use Rattle.types.specs.declared.Links.{Links}
-use Rattle.types.specs.declared.Path.{Path}
-use Rattle.types.specs.declared.Job.{Job}
-use Rattle.types.specs.declared.Operation.the-variants.{TakeOut}
-use Rattle.types.specs.declared.Goal.the-variants.{Serve}
-use Rattle.types.specs.declared.TakeStage.{TakeStage}
-use Rattle.types.specs.declared.TakeStage.the-variants.{TakeGrand, TakeParent, TakeLeft, TakeRight, TakeCommit}
-use Rattle.types.specs.declared.Phase.the-variants.{Start}
-use Rattle.types.specs.declared.Task.{Task}
-use Rattle.types.specs.declared.Turn.{Turn}
-use Rattle.types.specs.declared.Turn.the-variants.{Hurt, Next, Done}
-use Rattle.types.specs.declared.Outcome.{Outcome}
-use Rattle.types.specs.declared.Answer.the-variants.{NoRoom, TakenOut}
-use Rattle.types.specs.Task.{busy}
+use Rattle.terms.specs.declared.Rec.{Rec}
+use Rattle.terms.specs.declared.Links.{Links}
+use Rattle.terms.specs.declared.Path.{Path}
+use Rattle.terms.specs.declared.Job.{Job}
+use Rattle.terms.specs.declared.Operation.the-variants.{TakeOut}
+use Rattle.terms.specs.declared.Goal.the-variants.{Serve}
+use Rattle.terms.specs.declared.TakeStage.{TakeStage}
+use Rattle.terms.specs.declared.TakeStage.the-variants.{TakeGrand, TakeParent, TakeLeft, TakeRight, TakeCommit}
+use Rattle.terms.specs.declared.Phase.the-variants.{Start}
+use Rattle.terms.specs.declared.Task.{Task}
+use Rattle.terms.specs.declared.Turn.{Turn}
+use Rattle.terms.specs.declared.Turn.the-variants.{Hurt, Next, Done}
+use Rattle.terms.specs.declared.Outcome.{Outcome}
+use Rattle.terms.specs.declared.Answer.the-variants.{NoRoom, TakenOut}
+use Rattle.terms.specs.Task.{busy}
 use Rattle.machine.specs.Choice.{ifB}
 use Rattle.machine.specs.Record.{wellFormed, linked, leads, other}
 use Rattle.machine.specs.Table.{view, puts, slot1}

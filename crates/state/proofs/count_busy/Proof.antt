@@ -7,7 +7,7 @@ use native.Mathlib.Omega.{arith}
 use Rattle.state.proofs.count_busy.Statement.{statement}
 use Rattle.state.proofs.count_busy.Tie as tie
 use Rattle.state.proofs.one_if.Reads as one-if-reads
-use Rattle.types.proofs.Task.is_busy.Reads as is-busy-reads
+use Rattle.terms.proofs.Task.is_busy.Reads as is-busy-reads
 
 abbrev Inv-loop : tie.InvT-loop
 Inv-loop st n₀ i₀ n i = (i ≤ 8) × (n ≤ i) × (n ≡ busyTasks (st .tasks) i)

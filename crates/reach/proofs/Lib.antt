@@ -1,0 +1,7 @@
+pub mod Marks
+pub mod Joins
+pub mod Rows
+pub mod Entry
+pub mod Sweep
+pub mod Lines
+pub mod Grown
