@@ -9,5 +9,6 @@ pub mod Reach
 pub mod Ride
 pub mod DocumentRides
 pub mod OwnRides
+pub mod ResetRides
 pub mod Files
 pub mod Rides

@@ -10063,4 +10063,59 @@ ownRides =
                 ∷ [];
           });
     }
+    -- 532: a leaf in state 2 at the commit of a put-in fails the test, though its parent is as noted
+    ∷ record {
+      start = anew 16;
+      lines =
+          call (begin 0 PutIn 10 1) 0 0
+          ∷ call (step 0 4) 3 0
+          ∷ call (begin 1 PutIn 20 2) 0 0
+          ∷ call (step 1 4) 0 0
+          ∷ damage (field 3 0 2)
+          ∷ call (step 1 1) 0 0
+          ∷ [];
+      after =
+          left (record {
+            used = 5;
+            root = 10 ∷ 0 ∷ [];
+            settled = [];
+            busy = 1 ∷ [];
+            fares = 17 ∷ [];
+            figures = 17 ∷ 0 ∷ 0 ∷ 0 ∷ 0 ∷ 0 ∷ 0 ∷ 0 ∷ [];
+            table =
+                rec 1 4294967295 0 255 2 0
+                ∷ rec 2 4294967295 0 255 0 0
+                ∷ rec 1 4294967295 0 255 3 4
+                ∷ rec 2 10 1 0 0 0
+                ∷ rec 1 4294967295 0 255 0 0
+                ∷ [];
+          });
+    }
+    -- 533: the walk started again: with the leaf back it takes all five steps
+    ∷ record {
+      start = onward;
+      lines =
+          damage (field 3 0 1)
+          ∷ call (step 1 5) 3 0
+          ∷ [];
+      after =
+          left (record {
+            used = 8;
+            root = 20 ∷ 1 ∷ [];
+            settled = [];
+            busy = [];
+            fares = 0 ∷ 10 ∷ 1 ∷ 20 ∷ 2 ∷ [];
+            figures = 0 ∷ 1 ∷ 0 ∷ 0 ∷ 2 ∷ 2 ∷ 8 ∷ 1 ∷ [];
+            table =
+                rec 1 4294967295 0 255 2 0
+                ∷ rec 2 4294967295 0 255 0 0
+                ∷ rec 1 4294967295 0 255 5 4
+                ∷ rec 2 10 1 0 0 0
+                ∷ rec 1 4294967295 0 255 0 0
+                ∷ rec 1 20 0 1 6 7
+                ∷ rec 1 10 1 0 0 0
+                ∷ rec 1 20 2 0 0 0
+                ∷ [];
+          });
+    }
     ∷ []

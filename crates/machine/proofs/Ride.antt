@@ -16,6 +16,7 @@ pub data From : Type 0 where
   beside : From
 
 pub data Act : Type 0 where
+  reset : Act
   begin : ℕ → Operation → ℕ → ℕ → Act
   step : ℕ → ℕ → Act
   abandon : ℕ → Act

@@ -44,10 +44,11 @@ use Rattle.machine.specs.Contract.{after}
 use Rattle.machine.specs.Reach.{reachable, reachFrom, reach, larger, deeper}
 use Rattle.machine.specs.Allowed.{fibonacci, atMost, allowedRank}
 use Rattle.machine.specs.Calls.{resetOf, beginOf, abandonOf, tidyOf, figuresOf, listOf, Listed, emptyTable, abandonedOut, sweep, tidyReached, figuresReached, listReached}
-use Rattle.machine.specs.CallFile.{two, four, noJob, begins, steps as stepsRecord, abandons, tidies, byOperation, decode, runOf, serve, printed, lineOf, endLine, linesFrom, programOf}
-use Rattle.machine.proofs.Ride.{From, anew, onward, beside, Act, begin, step, abandon, tidy, figures, list, Hurting, field, m-is, u-is, length-is, task-is, Line, call, damage, Outcome, After, same, left, Ride, busy}
+use Rattle.machine.specs.CallFile.{two, four, noJob, begins, steps as stepsRecord, abandons, tidies, operationOf, byOperation, decode, runOf, serve, printed, lineOf, endLine, recordOf, linesFrom, programOf}
+use Rattle.machine.proofs.Ride.{From, anew, onward, beside, Act, reset, begin, step, abandon, tidy, figures, list, Hurting, field, m-is, u-is, length-is, task-is, Line, call, damage, Outcome, After, same, left, Ride, busy}
 use Rattle.machine.proofs.DocumentRides.{documentRides}
 use Rattle.machine.proofs.OwnRides.{ownRides}
+use Rattle.machine.proofs.ResetRides.{resetRides}
 use Rattle.machine.proofs.Files.{File, files}
 use lib.Dec.{T}
 
@@ -216,7 +217,10 @@ steps (suc (suc c)) w i a p =
     steps (suc c) (judge (stepped w i l) (gives (l .answer) 0 0)) i a p
 
 acted : World → Act → ℕ → ℕ → World
-unfolding seen judge gives steps equal ifB beginOf abandonOf tidyOf figuresOf listOf
+unfolding seen judge gives steps equal ifB resetOf beginOf abandonOf tidyOf figuresOf listOf
+acted w reset a b =
+    let l = resetOf (w .table) (w .state) in
+    judge (seen w 8 l) (gives (l .answer) a b)
 acted w (begin i o k p) a b =
     let l = beginOf (w .table) (w .state) i o (record { number = k; price = p }) in
     judge (seen w i l) (gives (l .answer) a b)
@@ -350,6 +354,6 @@ allPrint [] = true
 allPrint (f ∷ fs) = equalLines (programOf (f .bytes)) (f .lines) && allPrint fs
 
 -- every ride and every call file comes out as it must
-rides-hold : T (allHold (documentRides ++ ownRides) nowhere nowhere && allPrint files)
-unfolding allHold nowhere documentRides ownRides allPrint files ifB inTree sentinel numberFits priceFits fareMarks innerMarks isLink isLeaf isInner plainForm entryForm wellFormed linked level isFare leads still place lengthFits view put puts freeFrom free slot1 slot2 slot3 countFree settling busyTasks countOpen sound jobFits askFits sought atLeaf serveArrival outranks settleArrival arrival walkTo walkFrom walkOn reading commitIf leafOf innerRank putGrounds putTest putWrites putTurn putRoom putLimit putCommit readPutParent readPutLeaf putStep takeApart takeLeaf takeGrounds takeTest takeRoom other takeCommit readTakeGrand readTakeParent readTakeLeft readTakeRight takeStep parentRow levelRow sided linkAt aroundOf rotateWrites doubleWrites readGrand readParent readOn groundsTwo groundsThree groundsFour testTwo testThree testFour promoteDo rotateDo rotateTwoDo doubleDo rotateBy doubleBy promoteBy commitTwo commitThree commitFour chooseFormed turnFormed chooseBy chooseStep rotateOn rotateTurn rotateFirst rotateStep doubleTurn doubleFirst doubleStep settleStep phaseStep carried stepWork stepOf after reachable reachFrom reach larger deeper fibonacci atMost allowedRank emptyTable resetOf beginOf abandonedOut abandonOf sweep tidyReached tidyOf figuresReached figuresOf listReached listOf two four noJob begins stepsRecord abandons tidies byOperation decode runOf serve printed lineOf endLine linesFrom programOf
+rides-hold : T (allHold (documentRides ++ ownRides ++ resetRides) nowhere nowhere && allPrint files)
+unfolding allHold nowhere documentRides ownRides resetRides allPrint files ifB inTree sentinel numberFits priceFits fareMarks innerMarks isLink isLeaf isInner plainForm entryForm wellFormed linked level isFare leads still place lengthFits view put puts freeFrom free slot1 slot2 slot3 countFree settling busyTasks countOpen sound jobFits askFits sought atLeaf serveArrival outranks settleArrival arrival walkTo walkFrom walkOn reading commitIf leafOf innerRank putGrounds putTest putWrites putTurn putRoom putLimit putCommit readPutParent readPutLeaf putStep takeApart takeLeaf takeGrounds takeTest takeRoom other takeCommit readTakeGrand readTakeParent readTakeLeft readTakeRight takeStep parentRow levelRow sided linkAt aroundOf rotateWrites doubleWrites readGrand readParent readOn groundsTwo groundsThree groundsFour testTwo testThree testFour promoteDo rotateDo rotateTwoDo doubleDo rotateBy doubleBy promoteBy commitTwo commitThree commitFour chooseFormed turnFormed chooseBy chooseStep rotateOn rotateTurn rotateFirst rotateStep doubleTurn doubleFirst doubleStep settleStep phaseStep carried stepWork stepOf after reachable reachFrom reach larger deeper fibonacci atMost allowedRank emptyTable resetOf beginOf abandonedOut abandonOf sweep tidyReached tidyOf figuresReached figuresOf listReached listOf two four noJob begins stepsRecord abandons tidies operationOf byOperation decode runOf serve printed lineOf endLine recordOf linesFrom programOf
 rides-hold = tt

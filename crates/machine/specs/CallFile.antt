@@ -52,14 +52,15 @@ unfoldable pub tidies : List ℕ → Call
 tidies b = ifB (eqb (byte b 1) 0 && (eqb (countOf b) 0 && noJob b)) Tidy Bad
 
 -- "operation (1 look up, 2 put in, 3 take out, 4 step, 5 abandon, 6 tidy)"; else 19
+unfoldable pub operationOf : ℕ → Operation
+operationOf o = ifB (eqb o 1) LookUp (ifB (eqb o 2) PutIn TakeOut)
+
 unfoldable pub byOperation : ℕ → List ℕ → Call
 byOperation o b =
-    ifB (eqb o 1) (begins b LookUp)
-    (ifB (eqb o 2) (begins b PutIn)
-    (ifB (eqb o 3) (begins b TakeOut)
+    ifB (leb 1 o && leb o 3) (begins b (operationOf o))
     (ifB (eqb o 4) (steps b)
     (ifB (eqb o 5) (abandons b)
-    (ifB (eqb o 6) (tidies b) Bad)))))
+    (ifB (eqb o 6) (tidies b) Bad)))
 
 -- "or for a short last record, 19"
 unfoldable pub decode : List ℕ → Call
@@ -91,13 +92,25 @@ lineOf p b a = p ∷ printed 0 b ∷ printed 1 b ∷ numberOf a ∷ priceOf a �
 unfoldable pub endLine : Figures → List ℕ
 endLine f = f .height ∷ f .level ∷ f .c ∷ f .m ∷ f .fares ∷ f .free ∷ f .allowed ∷ []
 
+-- one record b at place p: what it leaves, and its line
+pub record Turned : Type 0 where
+  pub table : List ℕ
+  pub state : State
+  pub line : List ℕ
+
+abbrev pub lined : ℕ → List ℕ → Left → Turned
+lined p b l = record { table = l .table; state = l .state; line = lineOf p b (l .answer) }
+
+unfoldable pub recordOf : List ℕ → State → ℕ → List ℕ → Turned
+recordOf t st p b = lined p b (serve t st (decode b))
+
 -- all lines of an input, from place p on; gas: no more records than bytes
 unfoldable pub linesFrom : ℕ → ℕ → List ℕ → State → List ℕ → List (List ℕ)
 linesFrom zero p t st bs = endLine (figuresOf t st .figures) ∷ []
 linesFrom (suc g) p t st bs =
     elim (eqb (length bs) 0) [ true ↦ endLine (figuresOf t st .figures) ∷ [] | false ↦
-    let l = serve t st (decode (take 12 bs)) in
-    lineOf p (take 12 bs) (l .answer) ∷ linesFrom g (p + 1) (l .table) (l .state) (drop 12 bs) ]
+    let r = recordOf t st p (take 12 bs) in
+    r .line ∷ linesFrom g (p + 1) (r .table) (r .state) (drop 12 bs) ]
 
 -- "The program reads standard input, has 64 slots, resets them and prints per record"
 unfoldable pub programOf : List ℕ → List (List ℕ)
