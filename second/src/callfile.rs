@@ -31,21 +31,53 @@ pub enum Call {
     Tidy,
 }
 
+/// The five fields of a whole record, whatever they hold.
+#[derive(Clone, Copy, Debug, Default, PartialEq, Eq)]
+pub struct Fields {
+    pub code: u8,
+    pub task: u8,
+    pub count: u16,
+    pub number: u32,
+    pub price: u32,
+}
+
+impl Fields {
+    /// Nothing for a record of a wrong length.
+    pub fn of(record: &[u8]) -> Option<Fields> {
+        let record: [u8; RECORD_BYTES] = record.try_into().ok()?;
+        let [code, task, c0, c1, n0, n1, n2, n3, p0, p1, p2, p3] = record;
+        Some(Fields {
+            code,
+            task,
+            count: u16::from_le_bytes([c0, c1]),
+            number: u32::from_le_bytes([n0, n1, n2, n3]),
+            price: u32::from_le_bytes([p0, p1, p2, p3]),
+        })
+    }
+
+    pub fn record(self) -> [u8; RECORD_BYTES] {
+        let mut record = [0; RECORD_BYTES];
+        record[0] = self.code;
+        record[1] = self.task;
+        record[2..4].copy_from_slice(&self.count.to_le_bytes());
+        record[4..8].copy_from_slice(&self.number.to_le_bytes());
+        record[8..].copy_from_slice(&self.price.to_le_bytes());
+        record
+    }
+}
+
 /// The call of a record, or nothing for a bad one (answer 19).
-pub fn decode(bytes: &[u8]) -> Option<Call> {
-    let bytes: [u8; RECORD_BYTES] = bytes.try_into().ok()?;
-    let [code, task, c0, c1, n0, n1, n2, n3, p0, p1, p2, p3] = bytes;
-    let count = u16::from_le_bytes([c0, c1]);
-    let number = u32::from_le_bytes([n0, n1, n2, n3]);
-    let price = u32::from_le_bytes([p0, p1, p2, p3]);
-    let no_fare = number == 0 && price == 0;
+pub fn decode(record: &[u8]) -> Option<Call> {
+    let fields = Fields::of(record)?;
+    let Fields { task, count, .. } = fields;
+    let no_fare = fields.number == 0 && fields.price == 0;
     let begin = |operation| Call::Begin {
         operation,
         task,
-        number,
-        price,
+        number: fields.number,
+        price: fields.price,
     };
-    match code {
+    match fields.code {
         1 if count == 0 => Some(begin(Operation::LookUp)),
         2 if count == 0 => Some(begin(Operation::PutIn)),
         3 if count == 0 => Some(begin(Operation::TakeOut)),
@@ -68,13 +100,14 @@ pub fn encode(call: Call) -> [u8; RECORD_BYTES] {
         Call::Abandon { task } => (5, task, 0, 0, 0),
         Call::Tidy => (6, 0, 0, 0, 0),
     };
-    let mut bytes = [0; RECORD_BYTES];
-    bytes[0] = code;
-    bytes[1] = task;
-    bytes[2..4].copy_from_slice(&count.to_le_bytes());
-    bytes[4..8].copy_from_slice(&number.to_le_bytes());
-    bytes[8..].copy_from_slice(&price.to_le_bytes());
-    bytes
+    let fields = Fields {
+        code,
+        task,
+        count,
+        number,
+        price,
+    };
+    fields.record()
 }
 
 fn begin_code(operation: Operation) -> u8 {
@@ -105,6 +138,15 @@ impl Program {
             restarts: 0,
         };
         reset(&mut program.table, &mut program.state);
+        program
+    }
+
+    /// The program after a call file.
+    pub fn after(file: &[u8]) -> Program {
+        let mut program = Program::new();
+        for record in file.chunks(RECORD_BYTES) {
+            program.answer(record);
+        }
         program
     }
 
@@ -159,9 +201,7 @@ impl Program {
     fn goal_pursued(&self, task: u32) -> Option<Goal> {
         match self.phase(task)? {
             Phase::Start(_) | Phase::Walk(..) => None,
-            Phase::PuttingIn(..) => Some(Goal::Serve(Operation::PutIn)),
-            Phase::TakingOut(..) => Some(Goal::Serve(Operation::TakeOut)),
-            Phase::Settling(..) => Some(Goal::Settle),
+            phase => Some(phase.goal()),
         }
     }
 
@@ -186,11 +226,7 @@ pub fn run(file: &[u8]) -> String {
     let mut out = String::new();
     for (index, bytes) in file.chunks(RECORD_BYTES).enumerate() {
         let answer = program.answer(bytes);
-        let (code, task) = if bytes.len() == RECORD_BYTES {
-            (bytes[0], bytes[1])
-        } else {
-            (0, 0)
-        };
+        let Fields { code, task, .. } = Fields::of(bytes).unwrap_or_default();
         let (number, price) = (answer.number(), answer.price());
         // Writing to a string cannot fail.
         let _ = writeln!(out, "{} {code} {task} {number} {price}", index + 1);

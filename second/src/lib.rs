@@ -3,16 +3,20 @@
 //! Read in this order: `table` (a record, well formed), `task` (what a task
 //! is about to do), `step` (walk and readings), `commit` (put-in and
 //! take-out), `settle`, `calls` and `reach` (the other calls), `callfile`
-//! (the program). `make` and `count` are for random call files, `ride` for
-//! rides written as text.
+//! (the program). `make` and `count` are for random call files, `calltext`,
+//! `words` and `picture` show call files and what they do, `ride` is for
+//! rides that are compared with what they must give.
 
 pub mod allowed;
 pub mod answer;
 pub mod callfile;
 pub mod calls;
+pub mod calltext;
 pub mod commit;
 pub mod count;
+pub mod line;
 pub mod make;
+pub mod picture;
 pub mod random;
 pub mod reach;
 pub mod ride;
@@ -20,3 +24,4 @@ pub mod settle;
 pub mod step;
 pub mod table;
 pub mod task;
+pub mod words;

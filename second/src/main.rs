@@ -4,22 +4,32 @@ use std::fs;
 use std::io::{self, Read, Write};
 use std::process::ExitCode;
 
+use second::answer::Damaged;
 use second::callfile;
+use second::calltext;
 use second::count;
 use second::make::{make, Kind};
+use second::picture::{svg, text, Scene};
 use second::ride::{antt, parse, run, show, Ridden, Ride, Trouble};
+use second::words;
 
 const USAGE: &str = "usage:
   second run < FILE.calls         answer a call file on 64 slots
   second count < FILE.calls       count its answers, settling commits and restarts
   second make KIND SEED RECORDS   write a random call file; KIND is rush, burst,
                                   abandon, fill, sorted, garbage or mixed
+  second encode FILE.txt          write the call file that a text says
+  second decode FILE.calls        write a call file as text
+  second words FILE.txt [OUTPUT]  show a ride beside its answers in words; OUTPUT has
+                                  the lines of another program that answered it
+  second picture FILE.txt [--svg] show the tree after a ride
   second rides FILE..             run text rides and compare
   second antt FILE..              print text rides in the prover's notation
   second show FILE..              print table and tasks at the end of each ride
 ";
 
 const MOST_RECORDS: usize = 10_000_000;
+const MOST_TROUBLES: usize = 20;
 
 /// Why the program stops: bad use or bad input (2), or a difference (1).
 struct Stop {
@@ -49,6 +59,12 @@ fn act(words: &[String]) -> Result<(), Stop> {
         ["run"] => say(callfile::run(&standard_input()?).as_bytes()),
         ["count"] => say(count::count(&standard_input()?).told().as_bytes()),
         ["make", kind, seed, records] => make_calls(kind, seed, records),
+        ["encode", file] => say(&calltext::bytes(&text_lines(file)?)),
+        ["decode", file] => say(calltext::decode(&file_bytes(file)?).as_bytes()),
+        ["words", file] => show_words(file, None),
+        ["words", file, output] => show_words(file, Some(output)),
+        ["picture", file] => show_picture(file, text::print),
+        ["picture", file, "--svg"] | ["picture", "--svg", file] => show_picture(file, svg::print),
         ["rides", ref files @ ..] if !files.is_empty() => compare_rides(files),
         ["antt", ref files @ ..] if !files.is_empty() => print_antt(files),
         ["show", ref files @ ..] if !files.is_empty() => show_rides(files),
@@ -56,11 +72,15 @@ fn act(words: &[String]) -> Result<(), Stop> {
     }
 }
 
+/// A reader that has seen enough is no fault.
 fn say(text: &[u8]) -> Result<(), Stop> {
     let mut out = io::stdout().lock();
-    out.write_all(text)
-        .and_then(|()| out.flush())
-        .map_err(|error| bad_input(format!("cannot write: {error}")))
+    match out.write_all(text).and_then(|()| out.flush()) {
+        Err(error) if error.kind() != io::ErrorKind::BrokenPipe => {
+            Err(bad_input(format!("cannot write: {error}")))
+        }
+        _ => Ok(()),
+    }
 }
 
 fn standard_input() -> Result<Vec<u8>, Stop> {
@@ -84,13 +104,57 @@ fn make_calls(kind: &str, seed: &str, records: &str) -> Result<(), Stop> {
     }
 }
 
+fn file_bytes(file: &str) -> Result<Vec<u8>, Stop> {
+    fs::read(file).map_err(|error| bad_input(format!("{file}: {error}")))
+}
+
+fn file_text(file: &str) -> Result<String, Stop> {
+    String::from_utf8(file_bytes(file)?)
+        .map_err(|_| bad_input(format!("{file}: this is not text in UTF-8")))
+}
+
+fn in_file(file: &str, trouble: &Trouble) -> String {
+    format!("{file}:{}: {}", trouble.line, trouble.message)
+}
+
+/// The lines of a call file written as text, or all that is wrong with them.
+fn text_lines(file: &str) -> Result<Vec<calltext::Line>, Stop> {
+    calltext::parse(&file_text(file)?).map_err(|troubles| {
+        let mut told = vec![format!("{file} is not understood")];
+        let first = troubles.iter().take(MOST_TROUBLES);
+        told.extend(first.map(|trouble| in_file(file, trouble)));
+        if troubles.len() > MOST_TROUBLES {
+            told.push(format!("and {} more", troubles.len() - MOST_TROUBLES));
+        }
+        bad_input(told.join("\n"))
+    })
+}
+
+/// Without an output the answers are this program's own.
+fn show_words(file: &str, output: Option<&str>) -> Result<(), Stop> {
+    let lines = text_lines(file)?;
+    let printed = match output {
+        Some(output) => file_text(output)?,
+        None => callfile::run(&calltext::bytes(&lines)),
+    };
+    let told = words::words(&lines, &printed)
+        .map_err(|trouble| bad_input(in_file(output.unwrap_or("own answers"), &trouble)))?;
+    say(told.as_bytes())
+}
+
+fn show_picture(file: &str, print: fn(&Scene) -> String) -> Result<(), Stop> {
+    let scene = Scene::after(&calltext::bytes(&text_lines(file)?))
+        .map_err(|Damaged| bad_input(format!("{file}: the table is damaged")))?;
+    say(print(&scene).as_bytes())
+}
+
 /// The rides of one file, each with its outcome.
 fn ride_file(file: &str) -> Result<Vec<(Ride, Ridden)>, Stop> {
-    let text = fs::read_to_string(file).map_err(|error| bad_input(format!("{file}: {error}")))?;
+    let text = file_text(file)?;
     let told = |code| {
         move |trouble: Trouble| Stop {
             code,
-            message: format!("{file}:{}: {}", trouble.line, trouble.message),
+            message: in_file(file, &trouble),
         }
     };
     let rides = parse::parse(&text).map_err(told(2))?;

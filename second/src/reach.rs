@@ -34,17 +34,19 @@ impl Figures {
     }
 }
 
-/// A record that the entry reaches. `depth` counts the links from the root
-/// record, and is there only for that record and those below it.
-struct Reached {
-    slot: u32,
-    record: Record,
-    level: bool,
-    depth: Option<u32>,
+/// A record that the entry reaches. `links` counts the links from the entry,
+/// `depth` those from the root record; it is there only for that record and
+/// those below it.
+pub struct Reached {
+    pub slot: u32,
+    pub record: Record,
+    pub level: bool,
+    pub links: u32,
+    pub depth: Option<u32>,
 }
 
 impl Reached {
-    fn is_fare(&self) -> bool {
+    pub fn is_fare(&self) -> bool {
         self.record.is_leaf() && !self.record.is_sentinel()
     }
 }
@@ -58,8 +60,9 @@ struct Ahead {
     links: u32,
 }
 
-/// Everything the entry reaches, left before right, or 17.
-fn reached(table: &[u32]) -> Result<Vec<Reached>, Damaged> {
+/// Everything the entry reaches, a record before those below it and left
+/// before right, or 17.
+pub fn reached(table: &[u32]) -> Result<Vec<Reached>, Damaged> {
     let mut met = vec![false; whole_slots(table) as usize];
     let mut found = Vec::new();
     let mut ahead = vec![Ahead {
@@ -83,6 +86,7 @@ fn reached(table: &[u32]) -> Result<Vec<Reached>, Damaged> {
             slot: next.slot,
             record,
             level: next.parent.is_some_and(|p| record.is_level_below(&p)),
+            links: next.links,
             depth: next.depth,
         });
     }

@@ -75,11 +75,28 @@ pub enum Phase {
 }
 
 impl Phase {
+    pub fn goal(&self) -> Goal {
+        match *self {
+            Phase::Start(goal) | Phase::Walk(goal, _) => goal,
+            Phase::PuttingIn(..) => Goal::Serve(Operation::PutIn),
+            Phase::TakingOut(..) => Goal::Serve(Operation::TakeOut),
+            Phase::Settling(..) => Goal::Settle,
+        }
+    }
+
+    /// The records remembered, once the walk has begun.
+    pub fn path(&self) -> Option<Path> {
+        match *self {
+            Phase::Start(_) => None,
+            Phase::Walk(_, path)
+            | Phase::PuttingIn(path, _)
+            | Phase::TakingOut(path, _)
+            | Phase::Settling(path, _) => Some(path),
+        }
+    }
+
     pub fn settles(&self) -> bool {
-        matches!(
-            self,
-            Phase::Start(Goal::Settle) | Phase::Walk(Goal::Settle, _) | Phase::Settling(..)
-        )
+        self.goal() == Goal::Settle
     }
 }
 

@@ -6,8 +6,9 @@ use std::collections::BTreeMap;
 use second::answer::Answer;
 use second::callfile::{decode, Call, Program, RECORD_BYTES};
 use second::make::{make, KINDS};
+use second::random::Random;
 use second::reach::{figures, list};
-use second::task::Task;
+use second::task::{Operation, Task};
 
 fn listed(program: &Program) -> Vec<u32> {
     let (_, figures) = figures(&program.table, &program.state);
@@ -62,47 +63,47 @@ fn the_list_is_a_plain_map() {
     }
 }
 
+/// A random operation with its number and price, and the answer of a plain
+/// map, which is changed as the table will be.
+fn ask(random: &mut Random, fares: &mut BTreeMap<u32, u32>) -> (Operation, u32, u32, Answer) {
+    let number = random.below(24);
+    let price = random.below(100);
+    let (operation, price, wanted) = match random.below(3) {
+        0 => match fares.get(&number) {
+            Some(&price) => (Operation::LookUp, 0, Answer::Found { price }),
+            None => (Operation::LookUp, 0, Answer::NotHeld),
+        },
+        1 if fares.len() < 12 => match fares.contains_key(&number) {
+            true => (Operation::PutIn, price, Answer::HeldAlready),
+            false => {
+                fares.insert(number, price);
+                (Operation::PutIn, price, Answer::PutIn)
+            }
+        },
+        _ => match fares.remove(&number) {
+            Some(_) => (Operation::TakeOut, 0, Answer::TakenOut),
+            None => (Operation::TakeOut, 0, Answer::NotHeld),
+        },
+    };
+    (operation, number, price, wanted)
+}
+
 /// A task that works alone: every answer is that of a plain map.
 #[test]
 fn alone_every_answer_is_that_of_a_plain_map() {
-    use second::random::Random;
-    use second::task::Operation;
     let mut random = Random::new(64);
     let mut program = Program::new();
     let mut fares: BTreeMap<u32, u32> = BTreeMap::new();
+    let task = 0;
     for _ in 0..4000 {
-        let number = random.below(24);
-        let price = random.below(100);
-        let (operation, price, wanted) = match random.below(3) {
-            0 => match fares.get(&number) {
-                Some(&price) => (Operation::LookUp, 0, Answer::Found { price }),
-                None => (Operation::LookUp, 0, Answer::NotHeld),
-            },
-            1 if fares.len() < 12 => match fares.contains_key(&number) {
-                true => (Operation::PutIn, price, Answer::HeldAlready),
-                false => {
-                    fares.insert(number, price);
-                    (Operation::PutIn, price, Answer::PutIn)
-                }
-            },
-            _ => match fares.remove(&number) {
-                Some(_) => (Operation::TakeOut, 0, Answer::TakenOut),
-                None => (Operation::TakeOut, 0, Answer::NotHeld),
-            },
-        };
+        let (operation, number, price, wanted) = ask(&mut random, &mut fares);
         program.call(Call::Begin {
             operation,
-            task: 0,
+            task,
             number,
             price,
         });
-        assert_eq!(
-            program.call(Call::Step {
-                task: 0,
-                count: 999
-            }),
-            wanted
-        );
+        assert_eq!(program.call(Call::Step { task, count: 999 }), wanted);
         assert_eq!(program.call(Call::Tidy), Answer::Accepted);
     }
 }

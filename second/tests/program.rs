@@ -1,32 +1,10 @@
 //! The program as it is started: output, errors, exit codes.
 
+mod common;
+
 use std::fs;
-use std::io::Write;
-use std::path::PathBuf;
-use std::process::{Command, Output, Stdio};
 
-fn second(words: &[&str], input: &[u8]) -> Output {
-    let mut child = Command::new(env!("CARGO_BIN_EXE_second"))
-        .args(words)
-        .stdin(Stdio::piped())
-        .stdout(Stdio::piped())
-        .stderr(Stdio::piped())
-        .spawn()
-        .expect("the program starts");
-    // A program that stops at bad words does not read its input.
-    let _ = child.stdin.take().expect("its input").write_all(input);
-    child.wait_with_output().expect("the program ends")
-}
-
-fn text(bytes: &[u8]) -> String {
-    String::from_utf8_lossy(bytes).into_owned()
-}
-
-fn own_file(name: &str, content: &str) -> PathBuf {
-    let path = PathBuf::from(env!("CARGO_TARGET_TMPDIR")).join(name);
-    fs::write(&path, content).expect("a file of our own");
-    path
-}
+use common::{folder, own_file, second, text};
 
 #[test]
 fn run_answers_a_call_file() {
@@ -45,8 +23,14 @@ fn make_and_run_go_together() {
 
 #[test]
 fn bad_words_end_with_2_and_say_why() {
-    let none: [&[&str]; 8] = [
+    let none: [&[&str]; 14] = [
         &[],
+        &["encode"],
+        &["encode", "no-such-file"],
+        &["decode", "no-such-file"],
+        &["words", "no-such-file"],
+        &["picture", "--svg"],
+        &["picture", "a", "--png"],
         &["walk"],
         &["run", "now"],
         &["rides"],
@@ -88,4 +72,83 @@ fn rides_that_hold_are_counted() {
     let output = second(&["rides", &path.to_string_lossy()], &[]);
     assert!(output.status.success());
     assert_eq!(text(&output.stdout), "holds: a\n1 rides hold\n");
+}
+
+fn example(name: &str) -> String {
+    folder("examples").join(name).to_string_lossy().into_owned()
+}
+
+#[test]
+fn encode_and_decode_go_together() {
+    let made = second(&["make", "garbage", "5", "200"], &[]).stdout;
+    let calls = own_file("there.calls", &made);
+    let told = second(&["decode", &calls.to_string_lossy()], &[]);
+    assert!(told.status.success());
+    let back = own_file("back.txt", &told.stdout);
+    let encoded = second(&["encode", &back.to_string_lossy()], &[]);
+    assert!(encoded.status.success());
+    assert_eq!(encoded.stdout, made);
+}
+
+#[test]
+fn bad_text_is_told_line_by_line_up_to_20() {
+    let path = own_file(
+        "bad.txt",
+        "tidy\n\nput 10 at\n".to_string() + &"dance\n".repeat(25),
+    );
+    let path = path.to_string_lossy();
+    for command in ["encode", "words", "picture"] {
+        let output = second(&[command, &path], &[]);
+        assert_eq!(output.status.code(), Some(2), "{command}");
+        assert!(output.stdout.is_empty());
+        let told = text(&output.stderr);
+        assert!(
+            told.contains(&format!("\n{path}:3: `put 10 at`: price missing\n")),
+            "{told}"
+        );
+        assert!(
+            told.contains(&format!("\n{path}:22: `dance`: no call is named `dance`\n")),
+            "{told}"
+        );
+        assert!(told.ends_with("and 6 more\n"), "{told}");
+        assert_eq!(told.lines().count(), 22);
+    }
+}
+
+#[test]
+fn a_binary_file_is_no_text() {
+    let path = own_file("binary.txt", [0xFF, 0xFE]);
+    let output = second(&["encode", &path.to_string_lossy()], &[]);
+    assert_eq!(output.status.code(), Some(2));
+    assert!(text(&output.stderr).contains("not text"));
+}
+
+#[test]
+fn words_take_the_lines_of_another_program() {
+    let ride = example("example.txt");
+    let own = second(&["words", &ride], &[]);
+    assert!(own.status.success());
+    assert!(text(&own.stdout).contains("found at 250 cents"));
+    let printed = fs::read_to_string(example("example.out")).expect("its output");
+    let dearer = own_file("dearer.out", printed.replace(" 250\n", " 251\n"));
+    let other = second(&["words", &ride, &dearer.to_string_lossy()], &[]);
+    assert!(text(&other.stdout).contains("found at 251 cents"));
+    let broken = own_file("broken.out", printed.replace("3 1 1", "3 1 2"));
+    let output = second(&["words", &ride, &broken.to_string_lossy()], &[]);
+    assert_eq!(output.status.code(), Some(2));
+    assert!(text(&output.stderr)
+        .contains("broken.out:3: `3 1 2 0 0`: this is not the line of record 3, `look 10 by 1`"));
+}
+
+#[test]
+fn pictures_are_text_or_svg() {
+    let ride = example("morning.txt");
+    let told = second(&["picture", &ride], &[]);
+    assert!(text(&told.stdout).starts_with("Tree after 100 records: 17 fares"));
+    let drawn = second(&["picture", &ride, "--svg"], &[]);
+    assert!(text(&drawn.stdout).starts_with("<svg "));
+    assert_eq!(
+        drawn.stdout,
+        second(&["picture", "--svg", &ride], &[]).stdout
+    );
 }

@@ -2,6 +2,7 @@
 
 use super::facts::Fact;
 use super::{Act, After, At, Damage, Line, Ride, Start, Trouble, Want};
+use crate::line::{Parsed, Words};
 use crate::table::Links;
 use crate::task::{
     Busy, Goal, Operation, Path, Phase, PutPhase, SettlePhase, TakePhase, Task, NO_GRAND, TASKS,
@@ -11,8 +12,6 @@ const FIELDS: [&str; 6] = ["state", "number", "price", "rank", "left", "right"];
 const MOST_STEPS: u32 = 65_535;
 const MOST_ROOM: u32 = 65_536;
 const MOST_LENGTH: u32 = 65_536;
-
-type Parsed<T> = Result<T, String>;
 
 pub fn parse(text: &str) -> Result<Vec<Ride>, Trouble> {
     let mut rides = Vec::new();
@@ -73,7 +72,7 @@ impl Draft {
 
     fn add(&mut self, told: &str, line: usize) -> Parsed<()> {
         let mut words = Words::new(told);
-        let first = words.word()?;
+        let first = words.word("first word")?;
         match first {
             "start" => self.set_start(&mut words)?,
             "after" => self.set_after(&mut words, line)?,
@@ -147,80 +146,18 @@ fn same_is_clear(after: &At<After>, last: &At<Line>) -> Result<(), Trouble> {
     }
 }
 
-/// The words of one line, taken from the front.
-struct Words<'a> {
-    left: std::iter::Peekable<std::str::SplitWhitespace<'a>>,
-}
-
-impl<'a> Words<'a> {
-    fn new(told: &'a str) -> Words<'a> {
-        Words {
-            left: told.split_whitespace().peekable(),
-        }
+fn links<const N: usize>(words: &mut Words) -> Parsed<[Links; N]> {
+    let mut links = [Links::NONE; N];
+    for one in &mut links {
+        one.left = words.number("left link")?;
+        one.right = words.number("right link")?;
     }
-
-    fn word(&mut self) -> Parsed<&'a str> {
-        self.left
-            .next()
-            .ok_or_else(|| "the line is too short".into())
-    }
-
-    fn number(&mut self) -> Parsed<u32> {
-        let word = self.word()?;
-        word.parse()
-            .map_err(|_| format!("`{word}` is not a number of 32 bits"))
-    }
-
-    fn up_to(&mut self, most: u32) -> Parsed<u32> {
-        let number = self.number()?;
-        if number <= most {
-            Ok(number)
-        } else {
-            Err(format!("{number} is above {most}"))
-        }
-    }
-
-    fn expect(&mut self, wanted: &str) -> Parsed<()> {
-        let word = self.word()?;
-        if word == wanted {
-            Ok(())
-        } else {
-            Err(format!("`{wanted}` belongs where `{word}` stands"))
-        }
-    }
-
-    /// True, and the word is used up, if it comes next.
-    fn take(&mut self, wanted: &str) -> bool {
-        self.left.next_if(|word| *word == wanted).is_some()
-    }
-
-    fn is_spent(&mut self) -> bool {
-        self.left.peek().is_none()
-    }
-
-    fn end(&mut self) -> Parsed<()> {
-        match self.left.next() {
-            None => Ok(()),
-            Some(word) => Err(format!("nothing belongs where `{word}` stands")),
-        }
-    }
-
-    fn links<const N: usize>(&mut self) -> Parsed<[Links; N]> {
-        let mut links = [Links::NONE; N];
-        for one in &mut links {
-            one.left = self.number()?;
-            one.right = self.number()?;
-        }
-        Ok(links)
-    }
+    Ok(links)
 }
 
 fn start(words: &mut Words) -> Parsed<Start> {
-    match words.word()? {
-        "anew" => match words.number()? {
-            slots @ 8..=4096 => Ok(Start::Anew(slots)),
-            slots => Err(format!("a table has 8 to 4096 slots, not {slots}")),
-        },
+    match words.word("anew, then or beside")? {
+        "anew" => Ok(Start::Anew(words.between("slot count", 8..=4096)?)),
         "then" => Ok(Start::Onward),
         "beside" => Ok(Start::Beside),
         word => Err(format!("start is anew N, then or beside, not `{word}`")),
@@ -228,7 +165,7 @@ fn start(words: &mut Words) -> Parsed<Start> {
 }
 
 fn after(words: &mut Words) -> Parsed<After> {
-    match words.word()? {
+    match words.word("same or left")? {
         "same" => Ok(After::Same),
         "left" => Ok(After::Left),
         word => Err(format!("after is same or left, not `{word}`")),
@@ -236,11 +173,11 @@ fn after(words: &mut Words) -> Parsed<After> {
 }
 
 fn want(words: &mut Words) -> Parsed<Want> {
-    let word = words.word()?;
+    let word = words.word("fact")?;
     let fact = Fact::named(word).ok_or_else(|| format!("no fact is named `{word}`"))?;
     let mut numbers = Vec::new();
     while !words.is_spent() {
-        numbers.push(words.number()?);
+        numbers.push(words.number("number")?);
     }
     Ok(Want { fact, numbers })
 }
@@ -251,8 +188,12 @@ fn line_of(first: &str, words: &mut Words) -> Parsed<Line> {
     }
     let act = act(first, words)?;
     words.expect("->")?;
-    let answer = words.number()?;
-    let price = if words.is_spent() { 0 } else { words.number()? };
+    let answer = words.number("answer")?;
+    let price = if words.is_spent() {
+        0
+    } else {
+        words.number("price")?
+    };
     Ok(Line::Call { act, answer, price })
 }
 
@@ -262,19 +203,17 @@ fn act(first: &str, words: &mut Words) -> Parsed<Act> {
         "put" => begin(Operation::PutIn, words),
         "take" => begin(Operation::TakeOut, words),
         "step" => {
-            let task = words.number()?;
-            match words.up_to(MOST_STEPS)? {
-                0 => Err("at least one step".into()),
-                count => Ok(Act::Step { task, count }),
-            }
+            let task = words.number("task")?;
+            let count = words.between("count", 1..=MOST_STEPS)?;
+            Ok(Act::Step { task, count })
         }
         "abandon" => Ok(Act::Abandon {
-            task: words.number()?,
+            task: words.number("task")?,
         }),
         "tidy" => Ok(Act::Tidy),
         "figures" => Ok(Act::Figures),
         "list" => Ok(Act::List {
-            room: words.up_to(MOST_ROOM)?,
+            room: words.between("room", 0..=MOST_ROOM)?,
         }),
         word => Err(format!("no call is named `{word}`")),
     }
@@ -282,11 +221,15 @@ fn act(first: &str, words: &mut Words) -> Parsed<Act> {
 
 /// The price may be left out where it is 0.
 fn begin(operation: Operation, words: &mut Words) -> Parsed<Act> {
-    let number = words.number()?;
-    let price = if words.take("at") { words.number()? } else { 0 };
+    let number = words.number("fare number")?;
+    let price = if words.take("at") {
+        words.number("price")?
+    } else {
+        0
+    };
     words.expect("by")?;
     Ok(Act::Begin {
-        task: words.number()?,
+        task: words.number("task")?,
         operation,
         number,
         price,
@@ -294,22 +237,22 @@ fn begin(operation: Operation, words: &mut Words) -> Parsed<Act> {
 }
 
 fn damage(words: &mut Words) -> Parsed<Damage> {
-    match words.word()? {
+    match words.word("what is damaged")? {
         "slot" => {
-            let slot = words.number()?;
-            let name = words.word()?;
+            let slot = words.number("slot")?;
+            let name = words.word("field")?;
             let field = FIELDS.iter().position(|one| *one == name);
             Ok(Damage::Field {
                 slot,
                 field: field.ok_or_else(|| format!("no field is named `{name}`"))?,
-                value: words.number()?,
+                value: words.number("value")?,
             })
         }
-        "m" => Ok(Damage::M(words.number()?)),
-        "u" => Ok(Damage::U(words.number()?)),
-        "length" => Ok(Damage::Length(words.up_to(MOST_LENGTH)?)),
+        "m" => Ok(Damage::M(words.number("m")?)),
+        "u" => Ok(Damage::U(words.number("u")?)),
+        "length" => Ok(Damage::Length(words.between("length", 0..=MOST_LENGTH)?)),
         "task" => {
-            let task = words.up_to(TASKS as u32 - 1)? as usize;
+            let task = words.between("task", 0..=TASKS as u32 - 1)? as usize;
             let left = task_state(words)?;
             Ok(Damage::Task { task, left })
         }
@@ -321,9 +264,9 @@ fn task_state(words: &mut Words) -> Parsed<Task> {
     if words.take("idle") {
         return Ok(Task::Idle);
     }
-    let number = words.number()?;
-    let price = words.number()?;
-    let phase = match words.word()? {
+    let number = words.number("fare number")?;
+    let price = words.number("price")?;
+    let phase = match words.word("what the task does")? {
         "start" => Phase::Start(goal(words)?),
         "walk" => {
             let goal = goal(words)?;
@@ -342,7 +285,7 @@ fn task_state(words: &mut Words) -> Parsed<Task> {
 }
 
 fn goal(words: &mut Words) -> Parsed<Goal> {
-    match words.word()? {
+    match words.word("what the walk is for")? {
         "look" => Ok(Goal::Serve(Operation::LookUp)),
         "put" => Ok(Goal::Serve(Operation::PutIn)),
         "take" => Ok(Goal::Serve(Operation::TakeOut)),
@@ -355,42 +298,42 @@ fn path(words: &mut Words) -> Parsed<Path> {
     let grand = if words.take("none") {
         NO_GRAND
     } else {
-        words.number()?
+        words.number("grandparent")?
     };
     Ok(Path {
         grand,
-        parent: words.number()?,
-        here: words.number()?,
+        parent: words.number("parent")?,
+        here: words.number("record here")?,
     })
 }
 
 fn put_phase(words: &mut Words) -> Parsed<PutPhase> {
-    match words.word()? {
+    match words.word("stage")? {
         "parent" => Ok(PutPhase::Parent),
-        "leaf" => Ok(PutPhase::Leaf(words.links()?)),
-        "commit" => Ok(PutPhase::Commit(words.links()?)),
+        "leaf" => Ok(PutPhase::Leaf(links(words)?)),
+        "commit" => Ok(PutPhase::Commit(links(words)?)),
         word => Err(format!("a put-in has no `{word}`")),
     }
 }
 
 fn take_phase(words: &mut Words) -> Parsed<TakePhase> {
-    match words.word()? {
+    match words.word("stage")? {
         "grand" => Ok(TakePhase::Grand),
-        "parent" => Ok(TakePhase::Parent(words.links()?)),
-        "left" => Ok(TakePhase::Left(words.links()?)),
-        "right" => Ok(TakePhase::Right(words.links()?)),
-        "commit" => Ok(TakePhase::Commit(words.links()?)),
+        "parent" => Ok(TakePhase::Parent(links(words)?)),
+        "left" => Ok(TakePhase::Left(links(words)?)),
+        "right" => Ok(TakePhase::Right(links(words)?)),
+        "commit" => Ok(TakePhase::Commit(links(words)?)),
         word => Err(format!("a take-out has no `{word}`")),
     }
 }
 
 fn settle_phase(words: &mut Words) -> Parsed<SettlePhase> {
-    match words.word()? {
+    match words.word("stage")? {
         "grand" => Ok(SettlePhase::Grand),
-        "parent" => Ok(SettlePhase::Parent(words.links()?)),
-        "choose" => Ok(SettlePhase::Choose(words.links()?)),
-        "rotate" => Ok(SettlePhase::Rotate(words.links()?)),
-        "double" => Ok(SettlePhase::Double(words.links()?)),
+        "parent" => Ok(SettlePhase::Parent(links(words)?)),
+        "choose" => Ok(SettlePhase::Choose(links(words)?)),
+        "rotate" => Ok(SettlePhase::Rotate(links(words)?)),
+        "double" => Ok(SettlePhase::Double(links(words)?)),
         word => Err(format!("settling has no `{word}`")),
     }
 }

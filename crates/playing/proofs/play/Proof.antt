@@ -1,15 +1,15 @@
 use borrow.Author.Needs.{needs}
 use native.Mathlib.Omega.{arith}
 use Prim.Native.Nat.{_-_, _^_}
-use Rattle.fare.proofs.main.Statement.{statement}
-use Rattle.fare.proofs.main.Tie as tie
+use Rattle.playing.proofs.play.Statement.{statement}
+use Rattle.playing.proofs.play.Tie as tie
 use Rattle.state.proofs.fresh_state.Reads as fresh-state-reads
 
 abbrev Inv-loop : tie.InvT-loop
-Inv-loop t₀ st₀ place₀ t st place = Unit {0}
+Inv-loop fd t₀ st₀ place₀ t st place = Unit {0}
 
 abbrev μ-loop : tie.MeasureT-loop
-μ-loop t₀ st₀ place₀ t st place = 2 ^ 64 - place
+μ-loop fd t₀ st₀ place₀ t st place = 2 ^ 64 - place
 
 slice-aggregate-reset : tie.Need-slice-aggregate-reset Inv-loop μ-loop
 slice-aggregate-reset c = search needs
@@ -41,8 +41,8 @@ finish-requires c κs = search needs
 returns : tie.Need-returns Inv-loop μ-loop
 returns c = search needs
 
-pub main-spec : {M : Type 1} → statement M
-main-spec =
+pub play-spec : {M : Type 1} → statement M
+play-spec =
     tie.close
     (tie.spec
     Inv-loop
