@@ -4,6 +4,7 @@ use mathlib.Core.Bool.{Bool, true, false}
 use Rattle.terms.specs.declared.Answer.{Answer}
 use Rattle.terms.specs.declared.Answer.the-variants.{Accepted, Found, NotHeld, PutSettled, HeldAlready, TakenOut, PutUnsettled, TaskNumber, OutOfRange, TaskBusy, TaskIdle, SomeBusy, NoRoom, Limit, Damaged, Length, BadRecord}
 
+-- the first column of the table "Answers and refusals"
 abbrev pub numberOf : Answer → ℕ
 numberOf Accepted = 0
 numberOf (Found p) = 1

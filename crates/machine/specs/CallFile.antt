@@ -23,15 +23,19 @@ use Rattle.machine.specs.Calls.{resetOf, beginOf, abandonOf, tidyOf, fig
 abbrev pub byte : List ℕ → ℕ → ℕ
 byte b i = getD b i 0
 
+-- "count as two bytes .., low byte first"
 unfoldable pub two : List ℕ → ℕ → ℕ
 two b i = byte b i + 256 * byte b (i + 1)
 
+-- "four bytes each, low byte first"
 unfoldable pub four : List ℕ → ℕ → ℕ
 four b i = byte b i + 256 * byte b (i + 1) + 65536 * byte b (i + 2) + 16777216 * byte b (i + 3)
 
+-- "count": bytes 2 and 3
 abbrev pub countOf : List ℕ → ℕ
 countOf b = two b 2
 
+-- "fare number and price": bytes 4 to 7 and 8 to 11
 abbrev pub jobOf : List ℕ → Job
 jobOf b = record { number = four b 4; price = four b 8 }
 
@@ -39,15 +43,19 @@ jobOf b = record { number = four b 4; price = four b 8 }
 unfoldable pub noJob : List ℕ → Bool
 noJob b = eqb (four b 4) 0 && eqb (four b 8) 0
 
+-- operations 1 to 3: a count other than 0 is 19; a price is begin's to refuse
 unfoldable pub begins : List ℕ → Operation → Call
 begins b o = ifB (eqb (countOf b) 0) (Begin o (byte b 1) (jobOf b)) Bad
 
+-- "Count is 1 to 65,535 for operation 4"
 unfoldable pub steps : List ℕ → Call
 steps b = ifB (not (eqb (countOf b) 0) && noJob b) (Steps (byte b 1) (countOf b)) Bad
 
+-- operation 5 uses the task alone
 unfoldable pub abandons : List ℕ → Call
 abandons b = ifB (eqb (countOf b) 0 && noJob b) (Abandon (byte b 1)) Bad
 
+-- operation 6 uses "no task"
 unfoldable pub tidies : List ℕ → Call
 tidies b = ifB (eqb (byte b 1) 0 && (eqb (countOf b) 0 && noJob b)) Tidy Bad
 
@@ -55,6 +63,7 @@ tidies b = ifB (eqb (byte b 1) 0 && (eqb (countOf b) 0 && noJob b)) Tidy Bad
 unfoldable pub operationOf : ℕ → Operation
 operationOf o = ifB (eqb o 1) LookUp (ifB (eqb o 2) PutIn TakeOut)
 
+-- "else .. 19"
 unfoldable pub byOperation : ℕ → List ℕ → Call
 byOperation o b =
     ifB (leb 1 o && leb o 3) (begins b (operationOf o))
@@ -74,6 +83,7 @@ runOf (suc c) t st i =
     let l = stepOf t st i in
     elim (eqb (numberOf (l .answer)) 0 && not (eqb c 0)) [ true ↦ runOf c (l .table) (l .state) i | false ↦ l ]
 
+-- what a record asks for; a bad one changes nothing
 unfoldable pub serve : List ℕ → State → Call → Left
 serve t st (Begin o i j) = beginOf t st i o j
 serve t st (Steps i c) = runOf c t st i
@@ -85,6 +95,7 @@ serve t st Bad = same t st BadRecord
 unfoldable pub printed : ℕ → List ℕ → ℕ
 printed i b = ifB (ltb (length b) 12) 0 (byte b i)
 
+-- the five numbers of a line
 unfoldable pub lineOf : ℕ → List ℕ → Answer → List ℕ
 lineOf p b a = p ∷ printed 0 b ∷ printed 1 b ∷ numberOf a ∷ priceOf a ∷ []
 
@@ -98,9 +109,11 @@ pub record Turned : Type 0 where
   pub state : State
   pub line : List ℕ
 
+-- a line from what the call left
 abbrev pub lined : ℕ → List ℕ → Left → Turned
 lined p b l = record { table = l .table; state = l .state; line = lineOf p b (l .answer) }
 
+-- one record: decoded, served, its line
 unfoldable pub recordOf : List ℕ → State → ℕ → List ℕ → Turned
 recordOf t st p b = lined p b (serve t st (decode b))
 

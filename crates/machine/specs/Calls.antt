@@ -29,12 +29,15 @@ use Rattle.machine.specs.Allowed.{allowedRank}
 abbrev pub entryRec : Rec
 entryRec = innerOf topNumber 255 1 0
 
+-- "slot 1 sentinel leaf"
 abbrev pub firstLeaf : Rec
 firstLeaf = record { state = 1; number = topNumber; price = 0; rank = 255; left = 0; right = 0 }
 
+-- "all other slots zero"
 unfoldable pub emptyTable : ℕ → List ℕ
 emptyTable l = puts (replicate l 0) (fill 0 entryRec ∷ fill 1 firstLeaf ∷ [])
 
+-- reset refuses by length alone: 18
 unfoldable pub resetOf : List ℕ → State → Left
 resetOf t st = ifB (not (lengthFits (length t))) (same t st Length) (same (emptyTable (length t)) freshState Accepted)
 
@@ -55,6 +58,7 @@ abandonedOut st i k =
     (record { state = counted st i (abandoned k) 0 1; answer = PutUnsettled })
     (record { state = withTask st i (abandoned k); answer = Accepted })
 
+-- the refusals of abandon in their order
 unfoldable pub abandonOf : List ℕ → State → ℕ → Left
 abandonOf t st i =
     ifB (not (lengthFits (length t))) (same t st Length)
@@ -68,6 +72,7 @@ unfoldable pub sweep : List ℕ → ℕ → ℕ → List Write
 sweep marks zero s = []
 sweep marks (suc d) s = elim (eqb (getD marks s 0) 0) [ true ↦ fill s freeRec ∷ sweep marks d (s + 1) | false ↦ sweep marks d (s + 1) ]
 
+-- 17 of tidy, or the sweep
 unfoldable pub tidyReached : List ℕ → State → Reached → Left
 tidyReached t st hurt = same t st Damaged
 tidyReached t st (reached r marks) = same (puts t (sweep marks (slots t) 0)) st Accepted
@@ -84,6 +89,7 @@ tidyOf t st =
 abbrev pub noFigures : Figures
 noFigures = record { height = 0; level = 0; c = 0; m = 0; fares = 0; free = 0; allowed = 0 }
 
+-- "Refused figures .. write nothing."
 abbrev pub noReport : Answer → Report
 noReport a = record { answer = a; figures = noFigures }
 
@@ -116,6 +122,7 @@ pub record Listed : Type 0 where
   pub answer : Answer
   pub room : List ℕ
 
+-- 17 of a list, then 15, then the fares
 unfoldable pub listReached : List ℕ → Reached → Listed
 listReached room hurt = record { answer = Damaged; room = room }
 listReached room (reached r marks) =

@@ -2,6 +2,7 @@
 use mathlib.Core.Path.{_≡_, refl}
 use mathlib.Core.Bool.{Bool, true, false}
 
+-- the first where the test holds, otherwise the second
 unfoldable pub ifB {ℓ} : {A : Type ℓ} → Bool → A → A → A
 ifB true x y = x
 ifB false x y = y

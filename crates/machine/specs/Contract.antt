@@ -30,8 +30,10 @@ pub record Played : Type 0 where
   pub turn : Turn
   pub committed : Bool
 
+-- what the code leaves and hands back
 unfoldable pub acted : List ℕ → Outcome → Played
 acted t o = record { table = t; turn = o .turn; committed = o .committed }
 
+-- what the definition does
 unfoldable pub played : List ℕ → Did → Played
 played t d = record { table = puts t (d .writes); turn = d .turn; committed = d .committed }

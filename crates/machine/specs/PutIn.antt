@@ -27,6 +27,7 @@ leafOf k p =
     (record { state = 1; number = k; price = 0; rank = 255; left = 0; right = 0 })
     (record { state = 1; number = k; price = p; rank = 0; left = 0; right = 0 })
 
+-- a fresh inner record: "Inner records have price 0."
 abbrev pub innerOf : ℕ → ℕ → ℕ → ℕ → Rec
 innerOf k rk l r = record { state = 1; number = k; price = 0; rank = rk; left = l; right = r }
 
@@ -40,6 +41,7 @@ putGrounds n j q a p h =
     wellFormed n (q .parent) p && (linked n (q .here) h
     && (not (eqb (q .parent) (q .here)) && (leads a (q .here) && (isLeaf h && not (eqb (h .number) (j .number))))))
 
+-- "If every record read is still in state 1 with both links as noted"
 unfoldable pub putTest : Links → Links → Rec → Rec → Bool
 putTest a b p h = still p a && still h b
 
@@ -59,6 +61,7 @@ putWrites j q e h x y z =
 unfoldable pub putTurn : Job → Rec → Rec → Turn
 putTurn j p h = ifB (eqb (p .rank) 1 && eqb (innerRank h) 1) (Next (busy j (Start Settle))) (Done PutSettled)
 
+-- a put-in commits: m is one more
 abbrev pub putDone : Turn → List Write → Did
 putDone a ws = record { turn = a; committed = true; writes = ws }
 
@@ -72,6 +75,7 @@ putRoom v n j q e p h =
 unfoldable pub putLimit : View → ℕ → ℕ → Job → Path → Bool → Rec → Rec → Did
 putLimit v n m j q e p h = ifB (leb 1000000 m) (calm (Done Limit)) (putRoom v n j q e p h)
 
+-- "3. Commit (SCX), one step.", of a put-in
 unfoldable pub putCommit : View → ℕ → ℕ → Job → Path → Links → Links → Did
 putCommit v n m j q a b =
     commitIf (busy j (PuttingIn q (PutCommit a b)))
@@ -84,9 +88,11 @@ unfoldable pub readPutParent : ℕ → Job → Path → Rec → Turn
 readPutParent n j q p =
     reading (busy j (PuttingIn q PutParent)) (wellFormed n (q .parent) p) (inTree p && leads (linksOf p) (q .here)) p
 
+-- the leaf: it has no next remembered record
 unfoldable pub readPutLeaf : ℕ → Job → Path → Links → Rec → Turn
 readPutLeaf n j q a h = reading (busy j (PuttingIn q (PutLeaf a))) (linked n (q .here) h) (inTree h) h
 
+-- "Put-in: parent, leaf.", then its commit
 unfoldable pub putStep : View → ℕ → ℕ → Job → Path → PutStage → Did
 putStep v n m j q PutParent = calm (readPutParent n j q (v (q .parent)))
 putStep v n m j q (PutLeaf a) = calm (readPutLeaf n j q a (v (q .here)))

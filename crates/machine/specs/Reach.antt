@@ -20,10 +20,12 @@ pub data Reached : Type 0 where
   hurt : Reached
   reached : Tree → List ℕ → Reached
 
+-- a record with what it reaches on both sides
 abbrev pub joinRight : ℕ → Rec → Tree → Reached → Reached
 joinRight s r l hurt = hurt
 joinRight s r l (reached u m) = reached (node s r l u) m
 
+-- the left side first; the right side goes on with its marks
 abbrev pub joinLeft : ℕ → Rec → Reached → (List ℕ → Reached) → Reached
 joinLeft s r hurt f = hurt
 joinLeft s r (reached l m) f = joinRight s r l (f m)
@@ -51,6 +53,7 @@ abbrev pub levels : Rec → Tree → ℕ
 levels p (leaf s r) = one (level p r)
 levels p (node s r a b) = one (level p r) + (levels r a + levels r b)
 
+-- fares "counted over what the entry reaches"
 abbrev pub countFares : Tree → ℕ
 countFares (leaf s r) = one (isFare r)
 countFares (node s r a b) = countFares a + countFares b
@@ -60,6 +63,7 @@ abbrev pub fareLine : Bool → Rec → List ℕ
 fareLine true r = r .number ∷ r .price ∷ []
 fareLine false r = []
 
+-- the fares of a tree, left before right
 abbrev pub fareList : Tree → List ℕ
 fareList (leaf s r) = fareLine (isFare r) r
 fareList (node s r a b) = fareList a ++ fareList b
@@ -68,9 +72,11 @@ fareList (node s r a b) = fareList a ++ fareList b
 unfoldable pub larger : ℕ → ℕ → ℕ
 larger a b = ifB (leb a b) b a
 
+-- one record more on the way, where there is a fare
 unfoldable pub deeper : ℕ → ℕ
 deeper d = ifB (eqb d 0) 0 (d + 1)
 
+-- the records on the longest way down to a fare of a tree
 abbrev pub depth : Tree → ℕ
 depth (leaf s r) = one (isFare r)
 depth (node s r a b) = deeper (larger (depth a) (depth b))

@@ -26,6 +26,7 @@ sentinel r = eqb (r .number) topNumber && (eqb (r .rank) 255 && eqb (r .price) 0
 unfoldable pub numberFits : ℕ → Bool
 numberFits k = ltb k 1000000
 
+-- "Price: 0 to 99,999 whole cents."
 unfoldable pub priceFits : ℕ → Bool
 priceFits p = ltb p 100000
 
@@ -73,6 +74,7 @@ level p r = not (sentinel r) && eqb (r .rank) (p .rank)
 unfoldable pub isFare : Rec → Bool
 isFare r = isLeaf r && not (sentinel r)
 
+-- "A reading notes both links."
 abbrev pub linksOf : Rec → Links
 linksOf r = record { left = r .left; right = r .right }
 

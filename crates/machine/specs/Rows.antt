@@ -58,6 +58,7 @@ aroundOf q a b c =
 abbrev pub twoRecords : Path → Around → Rec → Rec → ℕ → ℕ → List Write
 twoRecords q o top below i k = fill i top ∷ fill k below ∷ off (q .parent) ∷ off (q .here) ∷ lead (q .grand) (o .high) i ∷ []
 
+-- "Rotations put x .. on top as usual"; "its fresh copy keeps the fare number"
 unfoldable pub rotateWrites : Path → Around → Rec → Rec → ℕ → ℕ → ℕ → ℕ → List Write
 rotateWrites q o z x rx rz i k =
     twoRecords q o (sided (o .side) (x .number) rx (o .w) k) (sided (o .side) (z .number) rz (o .y) (o .s)) i k
@@ -66,13 +67,16 @@ rotateWrites q o z x rx rz i k =
 abbrev pub doubleX : Around → Links → Rec → Rec
 doubleX o d x = sided (o .side) (x .number) (x .rank - 1) (o .w) (linkAt (o .side) d)
 
+-- the new z of a double rotation
 abbrev pub doubleZ : Around → Links → Rec → Rec
 doubleZ o d z = sided (o .side) (z .number) (z .rank - 1) (linkAt (not (o .side)) d) (o .s)
 
+-- the writes of a double rotation: "Every record replaced is taken off"
 abbrev pub sevenWrites : Path → Around → Rec → Rec → Rec → ℕ → ℕ → ℕ → List Write
 sevenWrites q o top left right i k l =
     fill i top ∷ fill k left ∷ fill l right ∷ off (q .parent) ∷ off (q .here) ∷ off (o .y) ∷ lead (q .grand) (o .high) i ∷ []
 
+-- "top first, then left, then right": x's copy stands on x's side
 unfoldable pub doubleWrites : Path → Around → Links → Rec → Rec → Rec → ℕ → ℕ → ℕ → List Write
 doubleWrites q o d z x y i k l =
     ifB (o .side)

@@ -12,12 +12,15 @@ use Rattle.terms.specs.declared.State.{State}
 use Rattle.machine.specs.Record.{numberFits, priceFits}
 use Rattle.terms.specs.Task.{idleTask, busy, workSettles, isBusy}
 
+-- task i
 abbrev pub taskAt : State → ℕ → Task
 taskAt st i = getD (st .tasks) i idleTask
 
+-- task i stored
 abbrev pub withTask : State → ℕ → Task → State
 withTask st i k = record { tasks = set (st .tasks) i k; m = st .m; u = st .u }
 
+-- a test as a number
 abbrev pub one : Bool → ℕ
 one true = 1
 one false = 0
@@ -27,6 +30,7 @@ unfoldable pub settling : List Task → ℕ → ℕ
 settling ts zero = 0
 settling ts (suc k) = settling ts k + one (workSettles (getD ts k idleTask .work))
 
+-- 14: "some task busy"
 unfoldable pub busyTasks : List Task → ℕ → ℕ
 busyTasks ts zero = 0
 busyTasks ts (suc k) = busyTasks ts k + one (isBusy (getD ts k idleTask .work))

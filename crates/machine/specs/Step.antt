@@ -58,6 +58,7 @@ turned st i Hurt c = st
 turned st i (Next k) c = counted st i k (one c) 0
 turned st i (Done a) c = counted st i idleTask (one c) (one (unsettled a))
 
+-- the answer of a turn: 17, 0 "the operation goes on", or its end
 abbrev pub answered : Turn → Answer
 answered Hurt = Damaged
 answered (Next k) = Accepted
@@ -75,6 +76,7 @@ stepWork t st i (Busy j f) =
     ifB (not (sound st && jobFits j)) (same t st Damaged)
     (carried t st i (phaseStep (view (slots t) t) (slots t) (st .m) j f))
 
+-- 18, then 10
 unfoldable pub stepOf : List ℕ → State → ℕ → Left
 stepOf t st i =
     ifB (not (lengthFits (length t))) (same t st Length)

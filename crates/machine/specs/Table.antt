@@ -20,9 +20,11 @@ place s f = s * width + f
 unfoldable pub lengthFits : ℕ → Bool
 lengthFits l = eqb (l % width) 0 && (leb (8 * width) l && leb l (4096 * width))
 
+-- how many slots a table has
 abbrev pub slots : List ℕ → ℕ
 slots t = length t / width
 
+-- what each slot reads as
 abbrev pub View : Type 0
 View = ℕ → Rec
 
@@ -46,6 +48,7 @@ pub data Write : Type 0 where
   lead : ℕ → Bool → ℕ → Write
   off : ℕ → Write
 
+-- a write carried out
 unfoldable pub put : List ℕ → Write → List ℕ
 put t (fill s r) =
     set
@@ -59,6 +62,7 @@ put t (lead s true a) = set t (place s 4) a
 put t (lead s false a) = set t (place s 5) a
 put t (off s) = set t (place s 0) 2
 
+-- writes carried out one after another
 unfoldable pub puts : List ℕ → List Write → List ℕ
 puts t [] = t
 puts t (w ∷ ws) = puts (put t w) ws
@@ -68,6 +72,7 @@ unfoldable pub freeFrom : View → ℕ → ℕ → ℕ
 freeFrom v zero s = s
 freeFrom v (suc d) s = elim (eqb (v s .state) 0) [ true ↦ s | false ↦ freeFrom v d (s + 1) ]
 
+-- the lowest free slot from s on, below n
 unfoldable pub free : View → ℕ → ℕ → ℕ
 free v n s = freeFrom v (n - s) s
 
@@ -75,9 +80,11 @@ free v n s = freeFrom v (n - s) s
 unfoldable pub slot1 : View → ℕ → ℕ
 slot1 v n = free v n 1
 
+-- the second
 unfoldable pub slot2 : View → ℕ → ℕ
 slot2 v n = free v n (slot1 v n + 1)
 
+-- the third
 unfoldable pub slot3 : View → ℕ → ℕ
 slot3 v n = free v n (slot2 v n + 1)
 

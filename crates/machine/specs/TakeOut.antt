@@ -35,6 +35,7 @@ takeGrounds n j q a b g p l r =
     wellFormed n (q .grand) g && (wellFormed n (q .parent) p && (linked n (b .left) l && (linked n (b .right) r
     && (takeApart q b && (leads a (q .parent) && (leads b (q .here) && takeLeaf j (ifB (eqb (b .left) (q .here)) l r)))))))
 
+-- "If every record read is still in state 1 with both links as noted"
 unfoldable pub takeTest : Links → Links → Links → Links → Rec → Rec → Rec → Rec → Bool
 takeTest a b c d g p l r = still g a && (still p b && (still l c && still r d))
 
@@ -48,6 +49,7 @@ takeRoom v n q e s sibling =
     ifB (leb n (slot1 v n)) (calm (Done NoRoom))
     (record { turn = Done TakenOut; committed = false; writes = takeWrites q e s sibling (slot1 v n) })
 
+-- "3. Commit (SCX), one step.", of a take-out
 unfoldable pub takeCommit : View → ℕ → Job → Path → Links → Links → Links → Links → Did
 takeCommit v n j q a b c d =
     commitIf (busy j (TakingOut q (TakeCommit a b c d)))
@@ -60,16 +62,20 @@ unfoldable pub readTakeGrand : ℕ → Job → Path → Rec → Turn
 readTakeGrand n j q g =
     reading (busy j (TakingOut q TakeGrand)) (wellFormed n (q .grand) g) (inTree g && leads (linksOf g) (q .parent)) g
 
+-- the parent: its noted links must lead to the leaf
 unfoldable pub readTakeParent : ℕ → Job → Path → Links → Rec → Turn
 readTakeParent n j q a p =
     reading (busy j (TakingOut q (TakeParent a))) (wellFormed n (q .parent) p) (inTree p && leads (linksOf p) (q .here)) p
 
+-- the parent's left child, by its noted link
 unfoldable pub readTakeLeft : ℕ → Job → Path → Links → Links → Rec → Turn
 readTakeLeft n j q a b l = reading (busy j (TakingOut q (TakeLeft a b))) (linked n (b .left) l) (inTree l) l
 
+-- "its right child"
 unfoldable pub readTakeRight : ℕ → Job → Path → Links → Links → Links → Rec → Turn
 readTakeRight n j q a b c r = reading (busy j (TakingOut q (TakeRight a b c))) (linked n (b .right) r) (inTree r) r
 
+-- the four readings, then the commit
 unfoldable pub takeStep : View → ℕ → Job → Path → TakeStage → Did
 takeStep v n j q TakeGrand = calm (readTakeGrand n j q (v (q .grand)))
 takeStep v n j q (TakeParent a) = calm (readTakeParent n j q a (v (q .parent)))

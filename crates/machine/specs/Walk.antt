@@ -31,6 +31,7 @@ atLeaf LookUp j q r = ifB (eqb (r .number) (j .number)) (Done (Found (r .price))
 atLeaf PutIn j q r = ifB (eqb (r .number) (j .number)) (Done HeldAlready) (Next (busy j (PuttingIn q PutParent)))
 atLeaf TakeOut j q r = ifB (eqb (r .number) (j .number)) (Next (busy j (TakingOut q TakeGrand))) (Done NotHeld)
 
+-- a record is arrived at for an operation: a leaf, or on with the walk
 unfoldable pub serveArrival : Operation → Job → Path → Rec → Turn
 serveArrival o j q h = ifB (isLeaf h) (atLeaf o j q h) (Next (busy j (Walk (Serve o) q)))
 

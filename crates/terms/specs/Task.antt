@@ -23,6 +23,7 @@ use Rattle.terms.specs.declared.Task.{Task}
 abbrev pub idleTask : Task
 idleTask = record { work = Idle }
 
+-- a busy task
 abbrev pub busy : Job → Phase → Task
 busy j f = record { work = Busy j f }
 
@@ -40,6 +41,7 @@ notedPut PutParent l = PutLeaf l
 notedPut (PutLeaf a) l = PutCommit a l
 notedPut (PutCommit a b) l = PutCommit a b
 
+-- a take-out's next stage
 abbrev pub notedTake : TakeStage → Links → TakeStage
 notedTake TakeGrand l = TakeParent l
 notedTake (TakeParent a) l = TakeLeft a l
@@ -47,6 +49,7 @@ notedTake (TakeLeft a b) l = TakeRight a b l
 notedTake (TakeRight a b c) l = TakeCommit a b c l
 notedTake (TakeCommit a b c d) l = TakeCommit a b c d
 
+-- a settling task's next stage
 abbrev pub notedSettle : SettleStage → Links → SettleStage
 notedSettle SettleGrand l = SettleParent l
 notedSettle (SettleParent a) l = SettleChoose a l
@@ -54,6 +57,7 @@ notedSettle (SettleChoose a b) l = SettleRotate a b l
 notedSettle (SettleRotate a b c) l = SettleDouble a b c l
 notedSettle (SettleDouble a b c d) l = SettleDouble a b c d
 
+-- the stage goes on, the rest stays
 abbrev pub notedPhase : Phase → Links → Phase
 notedPhase (Start g) l = Start g
 notedPhase (Walk g q) l = Walk g q
@@ -61,10 +65,12 @@ notedPhase (PuttingIn q s) l = PuttingIn q (notedPut s l)
 notedPhase (TakingOut q s) l = TakingOut q (notedTake s l)
 notedPhase (Settling q s) l = Settling q (notedSettle s l)
 
+-- an idle task has nothing to note
 abbrev pub notedWork : Work → Links → Work
 notedWork Idle l = Idle
 notedWork (Busy j f) l = Busy j (notedPhase f l)
 
+-- "A reading notes both links."
 abbrev pub noted : Task → Links → Task
 noted k l = record { work = notedWork (k .work) l }
 
@@ -81,6 +87,7 @@ abbrev pub restartedWork : Work → Work
 restartedWork Idle = Idle
 restartedWork (Busy j f) = Busy j (Start (goalOf f))
 
+-- "the task starts its walk again"
 abbrev pub restarted : Task → Task
 restarted k = record { work = restartedWork (k .work) }
 
@@ -88,14 +95,17 @@ restarted k = record { work = restartedWork (k .work) }
 abbrev pub abandoned : Task → Task
 abandoned k = idleTask
 
+-- whether a walk settles
 abbrev pub goalSettles : Goal → Bool
 goalSettles (Serve o) = false
 goalSettles Settle = true
 
+-- "the tasks now settling"
 abbrev pub workSettles : Work → Bool
 workSettles Idle = false
 workSettles (Busy j f) = goalSettles (goalOf f)
 
+-- 12 and 13: whether the task is busy
 abbrev pub isBusy : Work → Bool
 isBusy Idle = false
 isBusy (Busy j f) = true
