@@ -1,7 +1,7 @@
 //! Reset, begin and abandon. (Step has its own file; tidy, figures and list
 //! are in `reach`.)
 
-use crate::answer::Answer;
+use crate::answer::{Answer, Damaged};
 use crate::step::task_index;
 use crate::table::{
     set, slot_count, Links, Record, ENTRY, IN_TREE, LAST_NUMBER, LAST_PRICE, NO_LINK,
@@ -56,8 +56,8 @@ pub fn begin(
     if state.tasks[index] != Task::Idle {
         return Answer::TaskBusy;
     }
-    if !state.counts_fit() {
-        return Answer::Damaged;
+    if let Err(Damaged(ground)) = state.check_counts() {
+        return Answer::Damaged(ground);
     }
     state.tasks[index] = Task::Busy(Busy {
         number,
@@ -86,8 +86,8 @@ pub fn abandon(table: &[u32], state: &mut State, task: u32) -> Answer {
     if left == Task::Idle {
         return Answer::TaskIdle;
     }
-    if !state.counts_fit() {
-        return Answer::Damaged;
+    if let Err(Damaged(ground)) = state.check_counts() {
+        return Answer::Damaged(ground);
     }
     state.tasks[index] = Task::Idle;
     if left.settles() {

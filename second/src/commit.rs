@@ -1,6 +1,6 @@
 //! The commit (SCX): what every commit looks at, the put-in and the take-out.
 
-use crate::answer::{sound, Answer, Damaged};
+use crate::answer::{sound, Answer, Damaged, Ground};
 use crate::step::Next;
 use crate::table::{
     free_slots, get, read, set, Links, Record, IN_TREE, NO_LINK, SENTINEL_RANK, TAKEN_OFF,
@@ -62,12 +62,13 @@ pub fn commit_put_in(
     path: Path,
     notes: [Links; 2],
 ) -> Result<Next, Damaged> {
-    sound(path.here != NO_LINK)?;
+    sound(path.here != NO_LINK, Ground::Missing)?;
     let seen = see(table, &[path.parent, path.here], &notes)?;
     let (parent, leaf) = (&seen[0], &seen[1]);
-    sound(all_differ(&seen))?;
-    sound(parent.noted.lead_to(path.here))?;
-    sound(leaf.now.is_leaf() && leaf.now.number != busy.number)?;
+    sound(all_differ(&seen), Ground::SameRecord)?;
+    sound(parent.noted.lead_to(path.here), Ground::NotLedTo)?;
+    let other = leaf.now.is_leaf() && leaf.now.number != busy.number;
+    sound(other, Ground::PutInLeaf)?;
     if !unchanged(&seen) {
         return Ok(Next::GoOn(Phase::Start(Goal::Serve(Operation::PutIn))));
     }
@@ -126,18 +127,20 @@ pub fn commit_take_out(
     notes: [Links; 4],
 ) -> Result<Next, Damaged> {
     let children = notes[1];
-    sound(children.left != NO_LINK && children.right != NO_LINK)?;
+    let both = children.left != NO_LINK && children.right != NO_LINK;
+    sound(both, Ground::Missing)?;
     let slots = [path.grand, path.parent, children.left, children.right];
     let seen = see(table, &slots, &notes)?;
-    sound(all_differ(&seen))?;
-    sound(seen[0].noted.lead_to(path.parent))?;
-    sound(children.lead_to(path.here))?;
+    sound(all_differ(&seen), Ground::SameRecord)?;
+    sound(seen[0].noted.lead_to(path.parent), Ground::NotLedTo)?;
+    sound(children.lead_to(path.here), Ground::NotLedTo)?;
     let (leaf, sibling) = if children.left == path.here {
         (&seen[2], &seen[3])
     } else {
         (&seen[3], &seen[2])
     };
-    sound(leaf.now.is_leaf() && leaf.now.number == busy.number)?;
+    let own = leaf.now.is_leaf() && leaf.now.number == busy.number;
+    sound(own, Ground::TakeOutLeaf)?;
     if !unchanged(&seen) {
         return Ok(Next::GoOn(Phase::Start(Goal::Serve(Operation::TakeOut))));
     }

@@ -5,7 +5,9 @@
 //! take-out), `settle`, `calls` and `reach` (the other calls), `callfile`
 //! (the program). `make` and `count` are for random call files, `calltext`,
 //! `words` and `picture` show call files and what they do, `ride` is for
-//! rides that are compared with what they must give.
+//! rides that are compared with what they must give. `probe` makes single
+//! calls on any table and state, `statecode` writes a state as numbers, and
+//! `damage` makes random damaged probes.
 
 pub mod allowed;
 pub mod answer;
@@ -14,13 +16,16 @@ pub mod calls;
 pub mod calltext;
 pub mod commit;
 pub mod count;
+pub mod damage;
 pub mod line;
 pub mod make;
 pub mod picture;
+pub mod probe;
 pub mod random;
 pub mod reach;
 pub mod ride;
 pub mod settle;
+pub mod statecode;
 pub mod step;
 pub mod table;
 pub mod task;

@@ -1,15 +1,17 @@
 //! The second program: see `USAGE`.
 
 use std::fs;
-use std::io::{self, Read, Write};
+use std::io::{self, BufReader, BufWriter, Read, Write};
 use std::process::ExitCode;
 
 use second::answer::Damaged;
 use second::callfile;
 use second::calltext;
 use second::count;
+use second::damage::damage;
 use second::make::{make, Kind};
 use second::picture::{svg, text, Scene};
+use second::probe;
 use second::ride::{antt, parse, run, show, Ridden, Ride, Trouble};
 use second::words;
 
@@ -18,6 +20,13 @@ const USAGE: &str = "usage:
   second count < FILE.calls       count its answers, settling commits and restarts
   second make KIND SEED RECORDS   write a random call file; KIND is rush, burst,
                                   abandon, fill, sorted, garbage or mixed
+  second probe [--count] < INPUT  make single calls on any table and state, see
+                                  docs/PROBE.md; --count tells on standard error how
+                                  often each answer and each ground of 17 came
+  second probe --cut PLACE        write the one probe of INPUT at this place, from 1
+  second damage SEED COUNT [--bad]
+                                  write random damaged probes; --bad: the last one is
+                                  none
   second encode FILE.txt          write the call file that a text says
   second decode FILE.calls        write a call file as text
   second words FILE.txt [OUTPUT]  show a ride beside its answers in words; OUTPUT has
@@ -59,6 +68,11 @@ fn act(words: &[String]) -> Result<(), Stop> {
         ["run"] => say(callfile::run(&standard_input()?).as_bytes()),
         ["count"] => say(count::count(&standard_input()?).told().as_bytes()),
         ["make", kind, seed, records] => make_calls(kind, seed, records),
+        ["probe"] => run_probes(false),
+        ["probe", "--count"] => run_probes(true),
+        ["probe", "--cut", place] => cut_probe(place),
+        ["damage", seed, count] => make_probes(seed, count, false),
+        ["damage", seed, count, "--bad"] => make_probes(seed, count, true),
         ["encode", file] => say(&calltext::bytes(&text_lines(file)?)),
         ["decode", file] => say(calltext::decode(&file_bytes(file)?).as_bytes()),
         ["words", file] => show_words(file, None),
@@ -72,12 +86,16 @@ fn act(words: &[String]) -> Result<(), Stop> {
     }
 }
 
-/// A reader that has seen enough is no fault.
 fn say(text: &[u8]) -> Result<(), Stop> {
     let mut out = io::stdout().lock();
-    match out.write_all(text).and_then(|()| out.flush()) {
+    said(out.write_all(text).and_then(|()| out.flush()))
+}
+
+/// A reader that has seen enough is no fault.
+fn said(written: io::Result<()>) -> Result<(), Stop> {
+    match written {
         Err(error) if error.kind() != io::ErrorKind::BrokenPipe => {
-            Err(bad_input(format!("cannot write: {error}")))
+            Err(bad_input(format!("cannot read or write: {error}")))
         }
         _ => Ok(()),
     }
@@ -93,15 +111,51 @@ fn standard_input() -> Result<Vec<u8>, Stop> {
 
 fn make_calls(kind: &str, seed: &str, records: &str) -> Result<(), Stop> {
     let kind = Kind::named(kind).ok_or_else(|| bad_input(format!("no kind `{kind}`")))?;
-    let seed = seed
-        .parse()
-        .map_err(|_| bad_input(format!("`{seed}` is not a seed (0 to 2^64 - 1)")))?;
+    let seed = seed_of(seed)?;
     match records.parse() {
         Ok(records @ 1..=MOST_RECORDS) => say(&make(kind, seed, records)),
         _ => Err(bad_input(format!(
             "`{records}` is not a number of records (1 to {MOST_RECORDS})"
         ))),
     }
+}
+
+fn seed_of(word: &str) -> Result<u64, Stop> {
+    word.parse()
+        .map_err(|_| bad_input(format!("`{word}` is not a seed (0 to 2^64 - 1)")))
+}
+
+/// Probe by probe, as they are read.
+fn run_probes(count: bool) -> Result<(), Stop> {
+    let mut input = BufReader::with_capacity(1 << 16, io::stdin().lock());
+    let mut out = BufWriter::with_capacity(1 << 16, io::stdout().lock());
+    let run = probe::run(&mut input, &mut out);
+    match (run, count) {
+        (Ok(told), true) => eprint!("{}", told.told()),
+        (Ok(_), false) => {}
+        (Err(error), _) => return said(Err(error)),
+    }
+    said(out.flush())
+}
+
+fn cut_probe(place: &str) -> Result<(), Stop> {
+    let none = || bad_input(format!("there is no probe at place `{place}`"));
+    let wanted = place.parse().map_err(|_| none())?;
+    let found = probe::cut(&standard_input()?, wanted);
+    say(&found.ok().flatten().ok_or_else(none)?)
+}
+
+fn make_probes(seed: &str, count: &str, bad: bool) -> Result<(), Stop> {
+    let seed = seed_of(seed)?;
+    let Ok(count @ 1..=MOST_RECORDS) = count.parse() else {
+        return Err(bad_input(format!(
+            "`{count}` is not a number of probes (1 to {MOST_RECORDS})"
+        )));
+    };
+    let mut out = BufWriter::with_capacity(1 << 16, io::stdout().lock());
+    let mut probes = damage(seed, count, bad);
+    said(probes.try_for_each(|one| out.write_all(&one)))?;
+    said(out.flush())
 }
 
 fn file_bytes(file: &str) -> Result<Vec<u8>, Stop> {
@@ -144,7 +198,7 @@ fn show_words(file: &str, output: Option<&str>) -> Result<(), Stop> {
 
 fn show_picture(file: &str, print: fn(&Scene) -> String) -> Result<(), Stop> {
     let scene = Scene::after(&calltext::bytes(&text_lines(file)?))
-        .map_err(|Damaged| bad_input(format!("{file}: the table is damaged")))?;
+        .map_err(|Damaged(_)| bad_input(format!("{file}: the table is damaged")))?;
     say(print(&scene).as_bytes())
 }
 

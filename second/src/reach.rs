@@ -2,7 +2,7 @@
 //! figures and list.
 
 use crate::allowed::allowed_rank;
-use crate::answer::{sound, Answer, Damaged};
+use crate::answer::{sound, Answer, Damaged, Ground};
 use crate::table::{
     get, read, set, slot_count, whole_slots, Record, Side, ENTRY, FREE, NO_LINK, TAKEN_OFF,
 };
@@ -72,9 +72,10 @@ pub fn reached(table: &[u32]) -> Result<Vec<Reached>, Damaged> {
         links: 0,
     }];
     while let Some(next) = ahead.pop() {
-        let record = read(table, next.slot)?;
-        sound(record.state != TAKEN_OFF)?;
-        sound(!met[next.slot as usize])?;
+        let unformed = |_| Damaged(Ground::ReachedNotWellFormed);
+        let record = read(table, next.slot).map_err(unformed)?;
+        sound(record.state != TAKEN_OFF, Ground::ReachedTakenOff)?;
+        sound(!met[next.slot as usize], Ground::ReachedTwice)?;
         met[next.slot as usize] = true;
         // The right one first, so that the left one is followed first.
         for side in [Side::Right, Side::Left] {
@@ -110,7 +111,7 @@ fn below(from: &Ahead, record: Record, side: Side) -> Ahead {
 
 /// The reachable records, for a call that has met no earlier refusal.
 fn look_over(table: &[u32], state: &State) -> Result<Vec<Reached>, Damaged> {
-    sound(state.counts_fit())?;
+    state.check_counts()?;
     reached(table)
 }
 
@@ -121,8 +122,9 @@ pub fn tidy(table: &mut [u32], state: &State) -> Answer {
     if !state.busy_tasks().is_empty() {
         return Answer::SomeTaskBusy;
     }
-    let Ok(all) = look_over(table, state) else {
-        return Answer::Damaged;
+    let all = match look_over(table, state) {
+        Ok(all) => all,
+        Err(Damaged(ground)) => return Answer::Damaged(ground),
     };
     let mut kept = vec![false; whole_slots(table) as usize];
     for one in &all {
@@ -141,8 +143,9 @@ pub fn figures(table: &[u32], state: &State) -> (Answer, Figures) {
     if slot_count(table).is_none() {
         return (Answer::BadLength, Figures::default());
     }
-    let Ok(all) = look_over(table, state) else {
-        return (Answer::Damaged, Figures::default());
+    let all = match look_over(table, state) {
+        Ok(all) => all,
+        Err(Damaged(ground)) => return (Answer::Damaged(ground), Figures::default()),
     };
     let fares = || all.iter().filter(|one| one.is_fare());
     let figures = Figures {
@@ -170,8 +173,9 @@ pub fn list(table: &[u32], state: &State, lent: &mut [u32]) -> Answer {
     if slot_count(table).is_none() {
         return Answer::BadLength;
     }
-    let Ok(all) = look_over(table, state) else {
-        return Answer::Damaged;
+    let all = match look_over(table, state) {
+        Ok(all) => all,
+        Err(Damaged(ground)) => return Answer::Damaged(ground),
     };
     let fares: Vec<&Reached> = all.iter().filter(|one| one.is_fare()).collect();
     if lent.len() < 2 * fares.len() {

@@ -1,6 +1,6 @@
 //! Settling: the readings of pz, z, x and y, the choice of a row, its commit.
 
-use crate::answer::{sound, Answer, Damaged};
+use crate::answer::{sound, Answer, Damaged, Ground};
 use crate::commit::{all_differ, room, see, take_off, turn_link, unchanged, Seen};
 use crate::step::{after_reading, noted, Next};
 use crate::table::{read, read_linked, set, Links, Record, Side, IN_TREE, LAST_RANK};
@@ -44,7 +44,7 @@ enum Choice {
     ReadY,
     Commit(Row),
     /// The ranks allow no move. It is still a commit: its test comes first.
-    NoMove,
+    NoMove(Ground),
 }
 
 /// The slots around x, by the links noted so far. Without x's links y and w
@@ -116,13 +116,16 @@ fn choose_on(
             Ok(quiet(links, |x| Phase::Settling(path, on(x))))
         }
         Choice::ReadY => {
-            let (y, _) = around.below.ok_or(Damaged)?;
+            let (y, _) = around.below.ok_or(Damaged(Ground::Missing))?;
             let links = noted(&read_linked(table, y)?, None);
             let on = |y| SettlePhase::Double([notes[0], notes[1], notes[2], y]);
             Ok(quiet(links, |y| Phase::Settling(path, on(y))))
         }
-        Choice::Commit(row) => commit(table, state, path, notes, &around, Some(row)),
-        Choice::NoMove => commit(table, state, path, notes, &around, None),
+        Choice::Commit(row) => commit(table, state, path, notes, &around, Ok(row)),
+        Choice::NoMove(ground) => {
+            let row = Err(Damaged(ground));
+            commit(table, state, path, notes, &around, row)
+        }
     }
 }
 
@@ -137,7 +140,7 @@ fn choose(table: &[u32], path: Path, around: &Around, readings: usize) -> Result
     let x = read_linked(table, path.here)?;
     let s = read_linked(table, around.s)?;
     Ok(match (difference(&z, &s), around.below) {
-        (i64::MIN..=-1, _) => Choice::NoMove,
+        (i64::MIN..=-1, _) => Choice::NoMove(Ground::SiblingOutranks),
         (0, _) => Choice::Commit(Row::PromoteOne),
         (1, _) => Choice::Commit(Row::PromoteTwo),
         (2.., None) => Choice::ReadX,
@@ -152,12 +155,13 @@ fn choose(table: &[u32], path: Path, around: &Around, readings: usize) -> Result
 /// The row of a rotation, by x minus y and x minus w.
 fn rotation(x_minus_y: i64, x_minus_w: i64, readings: usize) -> Choice {
     match (x_minus_y, x_minus_w) {
-        (_, i64::MIN..=-1) => Choice::NoMove,
+        (i64::MIN..=-1, _) => Choice::NoMove(Ground::YOutranks),
+        (_, i64::MIN..=-1) => Choice::NoMove(Ground::WOutranks),
         (2.., _) => Choice::Commit(Row::RotateOne),
         (1, 1) => Choice::Commit(Row::RotateTwo),
         (1, 2..) if readings < 4 => Choice::ReadY,
         (1, 2..) => Choice::Commit(Row::Double),
-        _ => Choice::NoMove,
+        _ => Choice::NoMove(Ground::NoRow),
     }
 }
 
@@ -167,17 +171,18 @@ fn commit(
     path: Path,
     notes: &[Links],
     around: &Around,
-    row: Option<Row>,
+    row: Result<Row, Damaged>,
 ) -> Result<Told, Damaged> {
     let seen = seen_by(table, path, notes, around)?;
     let x = read_linked(table, path.here)?;
-    sound(all_differ(&seen))?;
-    sound(notes[0].lead_to(path.parent) && notes[1].lead_to(path.here))?;
-    sound(x.is_level_below(&seen[1].now))?;
+    sound(all_differ(&seen), Ground::SameRecord)?;
+    let led = notes[0].lead_to(path.parent) && notes[1].lead_to(path.here);
+    sound(led, Ground::NotLedTo)?;
+    sound(x.is_level_below(&seen[1].now), Ground::NotLevel)?;
     if !unchanged(&seen) {
         return Ok((Next::GoOn(Phase::Start(Goal::Settle)), None));
     }
-    let row = row.ok_or(Damaged)?;
+    let row = row?;
     let change = Change {
         path,
         around,
@@ -210,7 +215,8 @@ fn seen_by(
     }
     let seen = see(table, &slots, notes)?;
     // pz and z may be the entry; x and y hang on a link, which 0 is not.
-    sound(seen.iter().skip(2).all(|one| one.slot != 0))?;
+    let linked = seen.iter().skip(2).all(|one| one.slot != 0);
+    sound(linked, Ground::Missing)?;
     Ok(seen)
 }
 
@@ -242,7 +248,7 @@ impl Change<'_> {
             Row::RotateOne | Row::Double => x,
             Row::RotateTwo => x + 1,
         };
-        sound(top_rank <= LAST_RANK)?;
+        sound(top_rank <= LAST_RANK, Ground::RankAbove28)?;
         Ok(match row {
             Row::PromoteOne | Row::PromoteTwo => self.promote(table),
             Row::RotateOne => self.rotate(table, x, z - 1),

@@ -1,6 +1,6 @@
 //! One step of one task: a link of the walk, a reading, or a commit.
 
-use crate::answer::{sound, Answer, Damaged};
+use crate::answer::{sound, Answer, Damaged, Ground};
 use crate::commit::{commit_put_in, commit_take_out};
 use crate::settle::{settling, Settled};
 use crate::table::{self, read, read_linked, Links, Record, Side, ENTRY, TAKEN_OFF};
@@ -33,7 +33,7 @@ pub fn step_told(table: &mut [u32], state: &mut State, task: u32) -> (Answer, Op
         return (Answer::TaskIdle, None);
     };
     match advance(table, state, &busy) {
-        Err(Damaged) => (Answer::Damaged, None),
+        Err(Damaged(ground)) => (Answer::Damaged(ground), None),
         Ok((Next::End(answer), told)) => {
             state.tasks[index] = Task::Idle;
             (answer, told)
@@ -56,8 +56,9 @@ fn advance(
     state: &mut State,
     busy: &Busy,
 ) -> Result<(Next, Option<Settled>), Damaged> {
-    sound(state.counts_fit())?;
-    sound(busy.number <= table::LAST_NUMBER && busy.price <= table::LAST_PRICE)?;
+    state.check_counts()?;
+    sound(busy.number <= table::LAST_NUMBER, Ground::TaskNumber)?;
+    sound(busy.price <= table::LAST_PRICE, Ground::TaskPrice)?;
     let next = match busy.phase {
         Phase::Start(goal) => first_link(table, busy, goal)?,
         Phase::Walk(goal, path) => next_link(table, busy, goal, path)?,
@@ -104,7 +105,7 @@ fn arrive(
     let here = read_linked(table, path.here)?;
     Ok(match goal {
         Goal::Settle => {
-            sound(here.rank <= parent.rank)?;
+            sound(here.rank <= parent.rank, Ground::ArrivalOutranks)?;
             arrive_settling(path, &here, parent)
         }
         Goal::Serve(_) if !here.is_leaf() => Next::GoOn(Phase::Walk(goal, path)),

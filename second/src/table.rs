@@ -1,6 +1,6 @@
 //! The table: slots of six numbers, and when the record in one is well formed.
 
-use crate::answer::{sound, Damaged};
+use crate::answer::{sound, Damaged, Ground};
 
 pub const WIDTH: usize = 6;
 pub const ENTRY: u32 = 0;
@@ -183,14 +183,17 @@ pub fn set(table: &mut [u32], slot: u32, record: Record) {
 
 /// A record that a rule must read: in the table and well formed, else 17.
 pub fn read(table: &[u32], slot: u32) -> Result<Record, Damaged> {
-    let record = get(table, slot).ok_or(Damaged)?;
-    sound(record.is_well_formed(slot, whole_slots(table)))?;
+    // No table has this slot; it stands for a grandparent that is not there.
+    sound(slot != u32::MAX, Ground::Missing)?;
+    let record = get(table, slot).ok_or(Damaged(Ground::Outside))?;
+    let formed = record.is_well_formed(slot, whole_slots(table));
+    sound(formed, Ground::NotWellFormed)?;
     Ok(record)
 }
 
 /// The same for a record reached by a link, where 0 means "missing".
 pub fn read_linked(table: &[u32], slot: u32) -> Result<Record, Damaged> {
-    sound(slot != NO_LINK)?;
+    sound(slot != NO_LINK, Ground::Missing)?;
     read(table, slot)
 }
 

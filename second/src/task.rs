@@ -3,6 +3,7 @@
 //! A busy task's phase says what its next step does, and holds just what
 //! that step needs. States without a meaning cannot be written down.
 
+use crate::answer::{sound, Damaged, Ground};
 use crate::table::Links;
 
 pub const TASKS: usize = 8;
@@ -144,8 +145,10 @@ impl State {
     }
 
     /// The grounds of 17 that every call but reset looks at.
-    pub fn counts_fit(&self) -> bool {
-        self.m <= LAST_PUT_IN && self.unsettled() <= u64::from(self.m)
+    pub fn check_counts(&self) -> Result<(), Damaged> {
+        sound(self.m <= LAST_PUT_IN, Ground::TooManyPutIns)?;
+        let fits = self.unsettled() <= u64::from(self.m);
+        sound(fits, Ground::TooManyUnsettled)
     }
 
     pub fn busy_tasks(&self) -> Vec<u32> {

@@ -23,7 +23,7 @@ fn make_and_run_go_together() {
 
 #[test]
 fn bad_words_end_with_2_and_say_why() {
-    let none: [&[&str]; 14] = [
+    let none: [&[&str]; 20] = [
         &[],
         &["encode"],
         &["encode", "no-such-file"],
@@ -35,6 +35,12 @@ fn bad_words_end_with_2_and_say_why() {
         &["run", "now"],
         &["rides"],
         &["make", "rush", "1"],
+        &["probe", "now"],
+        &["probe", "--cut", "x"],
+        &["damage", "1"],
+        &["damage", "x", "5"],
+        &["damage", "1", "0"],
+        &["damage", "1", "5", "--good"],
         &["make", "slow", "1", "5"],
         &["make", "rush", "x", "5"],
         &["make", "rush", "1", "0"],

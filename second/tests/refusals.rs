@@ -68,7 +68,7 @@ fn refusals_of_begin_in_order() {
     let (table, mut state) = anew(48);
     let put = Operation::PutIn;
     state.m = 1_000_001;
-    assert_eq!(begin(&table, &mut state, 0, put, 1, 1), Answer::Damaged);
+    assert_eq!(begin(&table, &mut state, 0, put, 1, 1).number(), 17);
     state.m = 0;
     assert_eq!(begin(&table, &mut state, 0, put, 1, 1), Answer::Accepted);
     state.m = 1_000_001;
@@ -127,6 +127,6 @@ fn tidy_with_a_busy_task() {
     let before = table.clone();
     assert_eq!(tidy(&mut table, &state), Answer::SomeTaskBusy);
     state.tasks[7] = Task::Idle;
-    assert_eq!(tidy(&mut table, &state), Answer::Damaged);
+    assert_eq!(tidy(&mut table, &state).number(), 17);
     assert_eq!(table, before);
 }

@@ -12,7 +12,9 @@ use std::time::{Duration, SystemTime};
 
 use common::{folder, text};
 use second::callfile::run;
+use second::damage::damage;
 use second::make::{make, Kind};
+use second::probe::{read_probe, Next};
 
 /// A program just written cannot be started while another test, about to
 /// start its own, still holds it open. So the tests go one after another.
@@ -28,8 +30,10 @@ const RT: &str = r#"#!/bin/sh
 echo "$*" >>rt.log
 [ ! -e refuse ] || exit 1
 mkdir -p target/bin target/stamp
-printf '#!/bin/sh\nexec "$SECOND" run\n' >target/bin/fare
-chmod +x target/bin/fare
+word=$2
+[ "$word" != fare ] || word=run
+printf '#!/bin/sh\nexec "$SECOND" %s\n' "$word" >"target/bin/$2"
+chmod +x "target/bin/$2"
 "#;
 
 const LOADER: &str = r#"#!/bin/sh
@@ -63,7 +67,7 @@ impl Yard {
         let tools = format!("kit/on/{}/toolchain/lib", machine.trim());
         yard.program(&format!("{tools}/ld-linux-x86-64.so.2"), LOADER);
         fs::write(yard.top.join("crates.txt"), "fare:\n").expect("a list");
-        fs::write(yard.top.join("crates/fare/src/main.rt"), "").expect("a source");
+        fs::write(yard.top.join("crates/fare/src/source.txt"), "").expect("a source");
         yard
     }
 
@@ -85,6 +89,7 @@ impl Yard {
             .env("SECOND", env!("CARGO_BIN_EXE_second"))
             .env("PATH", format!("{}:{path}", kit.display()))
             .env_remove("FARE")
+            .env_remove("PROBE")
             .env_remove("RATTLE_HOME");
         command
     }
@@ -101,6 +106,16 @@ impl Yard {
         let mut command = self.command(script, words);
         command
             .env("FARE", fare)
+            .output()
+            .expect("a script that starts")
+    }
+
+    /// `fresh-rides --damage` with a shell command in the place of the proved program.
+    fn damage_with(&self, probe: &str, words: &[&str]) -> Output {
+        let probe = self.program("other/probe", &format!("#!/bin/sh\n{probe}\n"));
+        let mut command = self.command("fresh-rides", &[&["--damage"], words].concat());
+        command
+            .env("PROBE", probe)
             .output()
             .expect("a script that starts")
     }
@@ -194,6 +209,77 @@ fn fresh_rides_tell_other_faults() {
     }
 }
 
+const SAME_PROBE: &str = "\"$SECOND\" probe";
+
+#[test]
+fn damage_that_is_alike() {
+    let yard = Yard::new("damage-alike");
+    let output = yard.damage_with(SAME_PROBE, &["1200", "4"]);
+    let told = "damaged probes: 1200, in blocks of 1000, first seed: 4\n1200 of 1200 probes alike\nanswer 0: ";
+    assert_ends(&output, 0, told);
+    assert_ends(&output, 0, "\nanswer 40: 2\n");
+    assert!(!yard.top.join("target").exists());
+    // Without PROBE the program is built by rt.
+    assert_ends(&yard.run("fresh-rides", &["--damage", "20"]), 0, "20 of 20");
+    let log = fs::read_to_string(yard.top.join("rt.log")).expect("a log");
+    assert_eq!(log, "check probe\n");
+}
+
+#[test]
+fn damage_that_differs() {
+    let yard = Yard::new("damage-differs");
+    let alter = format!("{SAME_PROBE} | sed '0,/^answer 15 0$/{{s/^answer 15 0$/answer 16 0/}}'");
+    let output = yard.damage_with(&alter, &["1200", "4"]);
+    let block: Vec<Vec<u8>> = damage(4, 1000, true).collect();
+    let no_room = |one: &&Vec<u8>| match read_probe(&mut &one[..]) {
+        Ok(Next::Probe(mut probe)) => probe.make().answer.number() == 15,
+        _ => false,
+    };
+    let place = 1 + block.iter().take_while(|one| !no_room(one)).count();
+    let name = "target/fresh-rides/damage-4-1000";
+    assert_ends(
+        &output,
+        1,
+        &format!(
+            "difference in the block of seed 4, 1000 probes\n  probe {place} of the block, line "
+        ),
+    );
+    let lines = "  second: answer 15 0\n  probe:  answer 16 0\n  number 1 of the line: second 15, probe 16\n";
+    assert_ends(&output, 1, lines);
+    let kept = format!("  this probe: {name}-{place}.probe\n  the block:  {name}.probes\n");
+    assert_ends(&output, 1, &kept);
+    let read = |name: String| fs::read(yard.top.join(name)).expect("a file kept");
+    assert_eq!(read(format!("{name}.probes")), block.concat());
+    assert_eq!(read(format!("{name}-{place}.probe")), block[place - 1]);
+}
+
+#[test]
+fn damage_tells_other_faults() {
+    let yard = Yard::new("damage-faults");
+    for (after, told) in [
+        (
+            "| head -n 3",
+            "  probe 2 of the block, line 4 of the output\n",
+        ),
+        ("| head -n 3", "  probe:  no such line\n"),
+        ("; echo more", "  second: no such line\n  probe:  more\n"),
+        ("; exit 3", "  probe ended with status 3\n  the block:"),
+    ] {
+        let output = yard.damage_with(&format!("{SAME_PROBE} {after}"), &["10", "1"]);
+        assert_ends(&output, 1, told);
+    }
+    for words in [&["x"][..], &["1", "-2"], &["1", "2", "3"]] {
+        assert_ends(
+            &yard.damage_with(SAME_PROBE, words),
+            2,
+            "./fresh-rides [FILES",
+        );
+    }
+    fs::write(yard.top.join("refuse"), "").expect("a file");
+    let told = "probe, the proved program, cannot be built: 'rt check probe' failed.\n";
+    assert_ends(&yard.run("fresh-rides", &["--damage", "9"]), 1, told);
+}
+
 #[test]
 fn a_ride_shows_the_answers_of_fare() {
     let yard = Yard::new("answers");
@@ -226,7 +312,7 @@ fn fare_is_built_when_it_must_be() {
     };
     ride(1);
     ride(1);
-    let source = fs::File::create(yard.top.join("crates/fare/src/main.rt")).expect("a source");
+    let source = fs::File::create(yard.top.join("crates/fare/src/source.txt")).expect("a source");
     let later = SystemTime::now() + Duration::from_secs(60);
     source.set_modified(later).expect("a time");
     ride(2);

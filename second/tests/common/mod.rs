@@ -7,6 +7,7 @@ use std::fs;
 use std::io::Write;
 use std::path::{Path, PathBuf};
 use std::process::{Command, Output, Stdio};
+use std::thread;
 
 /// Runs the program as it is started.
 pub fn second(words: &[&str], input: &[u8]) -> Output {
@@ -17,9 +18,12 @@ pub fn second(words: &[&str], input: &[u8]) -> Output {
         .stderr(Stdio::piped())
         .spawn()
         .expect("the program starts");
-    // A program that stops at bad words does not read its input.
-    let _ = child.stdin.take().expect("its input").write_all(input);
-    child.wait_with_output().expect("the program ends")
+    let mut to = child.stdin.take().expect("its input");
+    thread::scope(|scope| {
+        // A program that stops at bad words does not read its input.
+        scope.spawn(move || to.write_all(input));
+        child.wait_with_output().expect("the program ends")
+    })
 }
 
 pub fn text(bytes: &[u8]) -> String {
