@@ -1,0 +1,1 @@
+// What a refusal leaves. No code.
