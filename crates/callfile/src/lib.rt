@@ -45,7 +45,10 @@ fn job_of(b: &[u8]) -> Job
     requires { ⌜ 12 ≤ length (now b) ⌝ }
     ensures { λ r. ⌜ r ≡ jobOf (now (b .entry)) ⌝ }
 {
-    Job { number: four_at(b, 4), price: four_at(b, 8) }
+    Job {
+        number: four_at(b, 4),
+        price: four_at(b, 8),
+    }
 }
 
 // Whether fare number and price are zero.
@@ -142,7 +145,10 @@ pub fn run(t: &mut [u32], st: State, i: u32, count: u32) -> Out
     ensures { λ r. ⌜ after (now (t .exit)) r ≡ runOf count (now (t .entry)) st i ⌝ }
 {
     if count == 0 {
-        return Out { state: st, answer: Answer::Accepted };
+        return Out {
+            state: st,
+            answer: Answer::Accepted,
+        };
     }
     let mut s = st;
     let mut left = count;
@@ -167,7 +173,10 @@ pub fn serve_call(t: &mut [u32], st: State, c: Call) -> Out
         Call::Steps(i, count) => run(t, st, i, count),
         Call::Abandon(i) => abandon(t, st, i),
         Call::Tidy => tidy(t, st),
-        Call::Bad => Out { state: st, answer: Answer::BadRecord },
+        Call::Bad => Out {
+            state: st,
+            answer: Answer::BadRecord,
+        },
     }
 }
 
@@ -219,7 +228,13 @@ fn printed_at(b: &[u8], i: usize) -> u32
 pub fn line_of(place: u64, b: &[u8], a: Answer) -> Line
     ensures { λ r. ⌜ numbers r ≡ lineOf place (now (b .entry)) a ⌝ }
 {
-    Line { place: place, operation: printed_at(b, 0), task: printed_at(b, 1), answer: number_of(a), price: price_of(a) }
+    Line {
+        place: place,
+        operation: printed_at(b, 0),
+        task: printed_at(b, 1),
+        answer: number_of(a),
+        price: price_of(a),
+    }
 }
 
 // What a record hands back beside the table.
@@ -235,5 +250,8 @@ pub fn serve_record(t: &mut [u32], st: State, place: u64, b: &[u8]) -> Served
     let o = serve_call(t, st, call_of(b));
     let s = o.state;
     let a = o.answer;
-    Served { state: s, line: line_of(place, b, a) }
+    Served {
+        state: s,
+        line: line_of(place, b, a),
+    }
 }

@@ -54,7 +54,17 @@ pub fn turn_formed(n: u32, o: Around, y: Rec, w: Rec) -> bool
 }
 
 // pz and z noted: promote, or read x.
-fn choose_by(t: &mut [u32], n: u32, row: ParentRow, j: Job, q: Path, a: Links, b: Links, z: Rec, x: Rec) -> Outcome
+fn choose_by(
+    t: &mut [u32],
+    n: u32,
+    row: ParentRow,
+    j: Job,
+    q: Path,
+    a: Links,
+    b: Links,
+    z: Rec,
+    x: Rec,
+) -> Outcome
     requires { ⌜ Sized (now t) n × (q .parent < n) ⌝ }
     ensures { λ r. ⌜ acted (now (t .exit)) r ≡ played (now (t .entry)) (chooseBy row (view n (now (t .entry))) n j q a b z x) ⌝ }
 {
@@ -71,7 +81,17 @@ fn choose_by(t: &mut [u32], n: u32, row: ParentRow, j: Job, q: Path, a: Links, b
     promote_by(t, n, row, j, q, a, b, z)
 }
 
-fn choose_step(t: &mut [u32], n: u32, j: Job, q: Path, a: Links, b: Links, z: Rec, x: Rec, s: Rec) -> Outcome
+fn choose_step(
+    t: &mut [u32],
+    n: u32,
+    j: Job,
+    q: Path,
+    a: Links,
+    b: Links,
+    z: Rec,
+    x: Rec,
+    s: Rec,
+) -> Outcome
     requires { ⌜ Sized (now t) n × (z ≡ view n (now t) (q .parent)) ⌝ }
     ensures { λ r. ⌜ acted (now (t .exit)) r ≡ played (now (t .entry)) (chooseStep (view n (now (t .entry))) n j q a b z x s) ⌝ }
 {
@@ -82,7 +102,19 @@ fn choose_step(t: &mut [u32], n: u32, j: Job, q: Path, a: Links, b: Links, z: Re
 }
 
 // x noted too: rotate, or read y.
-fn rotate_on(t: &mut [u32], n: u32, row: LevelRow, j: Job, q: Path, a: Links, b: Links, c: Links, z: Rec, x: Rec, y: Rec) -> Outcome
+fn rotate_on(
+    t: &mut [u32],
+    n: u32,
+    row: LevelRow,
+    j: Job,
+    q: Path,
+    a: Links,
+    b: Links,
+    c: Links,
+    z: Rec,
+    x: Rec,
+    y: Rec,
+) -> Outcome
     requires { ⌜ Sized (now t) n × (q .parent < n) × (q .here < n) ⌝ }
     ensures { λ r. ⌜ acted (now (t .exit)) r ≡ played (now (t .entry)) (rotateOn row (view n (now (t .entry))) n j q a b c z x y) ⌝ }
 {
@@ -99,7 +131,19 @@ fn rotate_on(t: &mut [u32], n: u32, row: LevelRow, j: Job, q: Path, a: Links, b:
     rotate_by(t, n, row, j, q, around_of(q, a, b, c), z, x)
 }
 
-fn rotate_turn(t: &mut [u32], n: u32, j: Job, q: Path, a: Links, b: Links, c: Links, z: Rec, x: Rec, y: Rec, w: Rec) -> Outcome
+fn rotate_turn(
+    t: &mut [u32],
+    n: u32,
+    j: Job,
+    q: Path,
+    a: Links,
+    b: Links,
+    c: Links,
+    z: Rec,
+    x: Rec,
+    y: Rec,
+    w: Rec,
+) -> Outcome
     requires { ⌜ Sized (now t) n × (q .parent < n) × (q .here < n) ⌝ }
     ensures { λ r. ⌜ acted (now (t .exit)) r ≡ played (now (t .entry)) (rotateTurn (view n (now (t .entry))) n j q a b c z x y w) ⌝ }
 {
@@ -107,11 +151,34 @@ fn rotate_turn(t: &mut [u32], n: u32, j: Job, q: Path, a: Links, b: Links, c: Li
     if !turn_formed(n, o, y, w) {
         return calm_turn(Turn::Hurt);
     }
-    rotate_on(t, n, level_row(x.rank, y.rank, w.rank), j, q, a, b, c, z, x, y)
+    rotate_on(
+        t,
+        n,
+        level_row(x.rank, y.rank, w.rank),
+        j,
+        q,
+        a,
+        b,
+        c,
+        z,
+        x,
+        y,
+    )
 }
 
 // A promote whose x was read.
-fn promote_three(t: &mut [u32], n: u32, row: ParentRow, j: Job, q: Path, a: Links, b: Links, c: Links, z: Rec, x: Rec) -> Outcome
+fn promote_three(
+    t: &mut [u32],
+    n: u32,
+    row: ParentRow,
+    j: Job,
+    q: Path,
+    a: Links,
+    b: Links,
+    c: Links,
+    z: Rec,
+    x: Rec,
+) -> Outcome
     requires { ⌜ Sized (now t) n × (q .parent < n) ⌝ }
     ensures { λ r. ⌜ acted (now (t .exit)) r ≡ played (now (t .entry)) (commitThree (view n (now (t .entry))) n j q a b c z x (promoteBy row (view n (now (t .entry))) n j q a b z)) ⌝ }
 {
@@ -125,7 +192,18 @@ fn promote_three(t: &mut [u32], n: u32, row: ParentRow, j: Job, q: Path, a: Link
     promote_by(t, n, row, j, q, a, b, z)
 }
 
-fn rotate_first(t: &mut [u32], n: u32, row: ParentRow, j: Job, q: Path, a: Links, b: Links, c: Links, z: Rec, x: Rec) -> Outcome
+fn rotate_first(
+    t: &mut [u32],
+    n: u32,
+    row: ParentRow,
+    j: Job,
+    q: Path,
+    a: Links,
+    b: Links,
+    c: Links,
+    z: Rec,
+    x: Rec,
+) -> Outcome
     requires { ⌜ Sized (now t) n × (q .parent < n) × (q .here < n) ⌝ }
     ensures { λ r. ⌜ acted (now (t .exit)) r ≡ played (now (t .entry)) (rotateFirst row (view n (now (t .entry))) n j q a b c z x) ⌝ }
 {
@@ -138,7 +216,18 @@ fn rotate_first(t: &mut [u32], n: u32, row: ParentRow, j: Job, q: Path, a: Links
     promote_three(t, n, row, j, q, a, b, c, z, x)
 }
 
-fn rotate_step(t: &mut [u32], n: u32, j: Job, q: Path, a: Links, b: Links, c: Links, z: Rec, x: Rec, s: Rec) -> Outcome
+fn rotate_step(
+    t: &mut [u32],
+    n: u32,
+    j: Job,
+    q: Path,
+    a: Links,
+    b: Links,
+    c: Links,
+    z: Rec,
+    x: Rec,
+    s: Rec,
+) -> Outcome
     requires { ⌜ Sized (now t) n × (z ≡ view n (now t) (q .parent)) × (x ≡ view n (now t) (q .here)) ⌝ }
     ensures { λ r. ⌜ acted (now (t .exit)) r ≡ played (now (t .entry)) (rotateStep (view n (now (t .entry))) n j q a b c z x s) ⌝ }
 {
@@ -149,7 +238,20 @@ fn rotate_step(t: &mut [u32], n: u32, j: Job, q: Path, a: Links, b: Links, c: Li
 }
 
 // y noted too: the commit, by the ranks found now.
-fn double_turn(t: &mut [u32], n: u32, j: Job, q: Path, a: Links, b: Links, c: Links, d: Links, z: Rec, x: Rec, y: Rec, w: Rec) -> Outcome
+fn double_turn(
+    t: &mut [u32],
+    n: u32,
+    j: Job,
+    q: Path,
+    a: Links,
+    b: Links,
+    c: Links,
+    d: Links,
+    z: Rec,
+    x: Rec,
+    y: Rec,
+    w: Rec,
+) -> Outcome
     requires { ⌜ Sized (now t) n × (q .parent < n) × (q .here < n) × (y ≡ view n (now t) (aroundOf q a b c .y)) ⌝ }
     ensures { λ r. ⌜ acted (now (t .exit)) r ≡ played (now (t .entry)) (doubleTurn (view n (now (t .entry))) n j q a b c d z x y w) ⌝ }
 {
@@ -168,7 +270,20 @@ fn double_turn(t: &mut [u32], n: u32, j: Job, q: Path, a: Links, b: Links, c: Li
 }
 
 // A promote whose x and y were read; i is y's slot.
-fn promote_four(t: &mut [u32], n: u32, row: ParentRow, j: Job, q: Path, a: Links, b: Links, c: Links, d: Links, i: u32, z: Rec, x: Rec) -> Outcome
+fn promote_four(
+    t: &mut [u32],
+    n: u32,
+    row: ParentRow,
+    j: Job,
+    q: Path,
+    a: Links,
+    b: Links,
+    c: Links,
+    d: Links,
+    i: u32,
+    z: Rec,
+    x: Rec,
+) -> Outcome
     requires { ⌜ Sized (now t) n × (q .parent < n) ⌝ }
     ensures { λ r. ⌜ acted (now (t .exit)) r ≡ played (now (t .entry)) (commitFour (view n (now (t .entry))) n j q a b c d i z x (promoteBy row (view n (now (t .entry))) n j q a b z)) ⌝ }
 {
@@ -183,7 +298,19 @@ fn promote_four(t: &mut [u32], n: u32, row: ParentRow, j: Job, q: Path, a: Links
     promote_by(t, n, row, j, q, a, b, z)
 }
 
-fn double_first(t: &mut [u32], n: u32, row: ParentRow, j: Job, q: Path, a: Links, b: Links, c: Links, d: Links, z: Rec, x: Rec) -> Outcome
+fn double_first(
+    t: &mut [u32],
+    n: u32,
+    row: ParentRow,
+    j: Job,
+    q: Path,
+    a: Links,
+    b: Links,
+    c: Links,
+    d: Links,
+    z: Rec,
+    x: Rec,
+) -> Outcome
     requires { ⌜ Sized (now t) n × (q .parent < n) × (q .here < n) ⌝ }
     ensures { λ r. ⌜ acted (now (t .exit)) r ≡ played (now (t .entry)) (doubleFirst row (view n (now (t .entry))) n j q a b c d z x) ⌝ }
 {
@@ -196,7 +323,19 @@ fn double_first(t: &mut [u32], n: u32, row: ParentRow, j: Job, q: Path, a: Links
     promote_four(t, n, row, j, q, a, b, c, d, o.y, z, x)
 }
 
-fn double_step(t: &mut [u32], n: u32, j: Job, q: Path, a: Links, b: Links, c: Links, d: Links, z: Rec, x: Rec, s: Rec) -> Outcome
+fn double_step(
+    t: &mut [u32],
+    n: u32,
+    j: Job,
+    q: Path,
+    a: Links,
+    b: Links,
+    c: Links,
+    d: Links,
+    z: Rec,
+    x: Rec,
+    s: Rec,
+) -> Outcome
     requires { ⌜ Sized (now t) n × (z ≡ view n (now t) (q .parent)) × (x ≡ view n (now t) (q .here)) ⌝ }
     ensures { λ r. ⌜ acted (now (t .exit)) r ≡ played (now (t .entry)) (doubleStep (view n (now (t .entry))) n j q a b c d z x s) ⌝ }
 {
@@ -216,15 +355,48 @@ pub fn settle_step(t: &mut [u32], n: u32, j: Job, q: Path, f: SettleStage) -> Ou
         SettleStage::SettleParent(a) => calm_turn(read_parent(n, j, q, a, load(t, n, q.parent))),
         SettleStage::SettleChoose(a, b) => {
             let s = load(t, n, other_link(b, q.here));
-            choose_step(t, n, j, q, a, b, load(t, n, q.parent), load(t, n, q.here), s)
+            choose_step(
+                t,
+                n,
+                j,
+                q,
+                a,
+                b,
+                load(t, n, q.parent),
+                load(t, n, q.here),
+                s,
+            )
         }
         SettleStage::SettleRotate(a, b, c) => {
             let s = load(t, n, other_link(b, q.here));
-            rotate_step(t, n, j, q, a, b, c, load(t, n, q.parent), load(t, n, q.here), s)
+            rotate_step(
+                t,
+                n,
+                j,
+                q,
+                a,
+                b,
+                c,
+                load(t, n, q.parent),
+                load(t, n, q.here),
+                s,
+            )
         }
         SettleStage::SettleDouble(a, b, c, d) => {
             let s = load(t, n, other_link(b, q.here));
-            double_step(t, n, j, q, a, b, c, d, load(t, n, q.parent), load(t, n, q.here), s)
+            double_step(
+                t,
+                n,
+                j,
+                q,
+                a,
+                b,
+                c,
+                d,
+                load(t, n, q.parent),
+                load(t, n, q.here),
+                s,
+            )
         }
     }
 }

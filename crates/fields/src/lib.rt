@@ -30,10 +30,24 @@ pub fn load(t: &[u32], n: u32, s: u32) -> Rec
     ensures { λ r. ⌜ r ≡ view n (now (t .entry)) s ⌝ }
 {
     if n <= s {
-        return Rec { state: 0, number: 0, price: 0, rank: 0, left: 0, right: 0 };
+        return Rec {
+            state: 0,
+            number: 0,
+            price: 0,
+            rank: 0,
+            left: 0,
+            right: 0,
+        };
     }
     let i = s as usize * 6;
-    Rec { state: t[i], number: t[i + 1], price: t[i + 2], rank: t[i + 3], left: t[i + 4], right: t[i + 5] }
+    Rec {
+        state: t[i],
+        number: t[i + 1],
+        price: t[i + 2],
+        rank: t[i + 3],
+        left: t[i + 4],
+        right: t[i + 5],
+    }
 }
 
 // The state alone, for the scans.
@@ -144,7 +158,10 @@ pub fn outranks(h: Rec, p: Rec) -> bool
 pub fn links_of(r: Rec) -> Links
     ensures { λ a. ⌜ a ≡ linksOf r ⌝ }
 {
-    Links { left: r.left, right: r.right }
+    Links {
+        left: r.left,
+        right: r.right,
+    }
 }
 
 // Whether one of two links leads to a record.

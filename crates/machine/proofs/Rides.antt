@@ -199,7 +199,12 @@ stepped w i l =
 judge : World → Bool → World
 judge w b =
     record {
-      table = w .table; state = w .state; oldTable = w .oldTable; oldState = w .oldState; settled = w .settled; fine = w .fine && b;
+      table = w .table;
+      state = w .state;
+      oldTable = w .oldTable;
+      oldState = w .oldState;
+      settled = w .settled;
+      fine = w .fine && b;
     }
 
 gives : Answer → ℕ → ℕ → Bool

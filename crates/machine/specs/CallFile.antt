@@ -121,9 +121,12 @@ recordOf t st p b = lined p b (serve t st (decode b))
 unfoldable pub linesFrom : ℕ → ℕ → List ℕ → State → List ℕ → List (List ℕ)
 linesFrom zero p t st bs = endLine (figuresOf t st .figures) ∷ []
 linesFrom (suc g) p t st bs =
-    elim (eqb (length bs) 0) [ true ↦ endLine (figuresOf t st .figures) ∷ [] | false ↦
-    let r = recordOf t st p (take 12 bs) in
-    r .line ∷ linesFrom g (p + 1) (r .table) (r .state) (drop 12 bs) ]
+    elim (eqb (length bs) 0) [
+      | true ↦ endLine (figuresOf t st .figures) ∷ []
+      | false ↦
+          let r = recordOf t st p (take 12 bs) in
+          r .line ∷ linesFrom g (p + 1) (r .table) (r .state) (drop 12 bs)
+    ]
 
 -- "The program reads standard input, has 64 slots, resets them and prints per record"
 unfoldable pub programOf : List ℕ → List (List ℕ)

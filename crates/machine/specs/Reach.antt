@@ -38,9 +38,15 @@ reachable n v marks s = linked n s (v s) && (inTree (v s) && eqb (getD marks s 0
 unfoldable pub reachFrom : ℕ → ℕ → View → List ℕ → ℕ → Reached
 reachFrom zero n v marks s = hurt
 reachFrom (suc g) n v marks s =
-    elim (reachable n v marks s) [ false ↦ hurt | true ↦
-    elim (isLeaf (v s)) [ true ↦ reached (leaf s (v s)) (set marks s 1) | false ↦
-    joinLeft s (v s) (reachFrom g n v (set marks s 1) (v s .left)) (λ m. reachFrom g n v m (v s .right)) ] ]
+    elim (reachable n v marks s) [
+      | false ↦ hurt
+      | true ↦
+          elim (isLeaf (v s)) [
+            | true ↦ reached (leaf s (v s)) (set marks s 1)
+            | false ↦
+                joinLeft s (v s) (reachFrom g n v (set marks s 1) (v s .left)) (λ m. reachFrom g n v m (v s .right))
+          ]
+    ]
 
 -- from the entry: what hangs on its left link
 unfoldable pub reach : ℕ → View → Reached

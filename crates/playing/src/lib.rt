@@ -1,6 +1,6 @@
 // A call file is read from a descriptor to its end and printed: a line for each record, then the figures. Only reading and printing stand here.
-use callfile::serve_record;
 use callfile::Line;
+use callfile::serve_record;
 use libc::STDOUT_FILENO;
 use resetting::reset;
 use state::fresh_state;
@@ -48,13 +48,19 @@ fn turn(fd: i32, t: &mut [u32; 384], st: State, place: u64) -> After {
     let mut rec = [0u8; 12];
     let n = io::read_full(fd, &mut rec);
     if n == 0 {
-        return After { state: st, more: false };
+        return After {
+            state: st,
+            more: false,
+        };
     }
     let r = serve_record(t, st, place, &rec[..n]);
     let l = r.line;
     print_line(l);
     let s = r.state;
-    After { state: s, more: true }
+    After {
+        state: s,
+        more: true,
+    }
 }
 
 // The figures of the table at the end.

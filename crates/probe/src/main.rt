@@ -7,10 +7,10 @@ use libc::STDOUT_FILENO;
 use resetting::reset;
 use state::fresh_state;
 use state::number_of;
+use statecode::Row;
 use statecode::row_of;
 use statecode::task_of;
 use statecode::word_at;
-use statecode::Row;
 use stepping::step;
 use terms::Answer;
 use terms::Figures;
@@ -164,7 +164,10 @@ fn state_of(b: &[u8; 488]) -> GotState {
     while i < 8 {
         let g = task_of(row_at(b, i));
         if !g.fine {
-            return GotState { fine: false, state: st };
+            return GotState {
+                fine: false,
+                state: st,
+            };
         }
         let k = g.task;
         st.tasks[i] = k;
@@ -172,7 +175,10 @@ fn state_of(b: &[u8; 488]) -> GotState {
     }
     st.m = word_at(b, 480);
     st.u = word_at(b, 484);
-    GotState { fine: true, state: st }
+    GotState {
+        fine: true,
+        state: st,
+    }
 }
 
 fn print_out(o: Out) -> State {
@@ -210,7 +216,10 @@ fn make_list(t: &[u32], st: State, room: usize) -> State
 fn make(t: &mut [u32], st: State, a: Ask) -> State
     requires { ⌜ a .room ≤ 8192 ⌝ }
 {
-    let j = Job { number: a.number, price: a.price };
+    let j = Job {
+        number: a.number,
+        price: a.price,
+    };
     let call = a.call;
     match call {
         0 => print_out(reset(t, st)),

@@ -10,8 +10,8 @@ use fields::put_fill;
 use fields::put_lead;
 use fields::put_off;
 use fields::well_formed;
-use room::three_slots;
 use room::Triple;
+use room::three_slots;
 use terms::Answer;
 use terms::Goal;
 use terms::Job;
@@ -53,16 +53,37 @@ pub fn leaf_of(number: u32, price: u32) -> Rec
     ensures { λ r. ⌜ r ≡ leafOf number price ⌝ }
 {
     if number == 4294967295 {
-        return Rec { state: 1, number: number, price: 0, rank: 255, left: 0, right: 0 };
+        return Rec {
+            state: 1,
+            number: number,
+            price: 0,
+            rank: 255,
+            left: 0,
+            right: 0,
+        };
     }
-    Rec { state: 1, number: number, price: price, rank: 0, left: 0, right: 0 }
+    Rec {
+        state: 1,
+        number: number,
+        price: price,
+        rank: 0,
+        left: 0,
+        right: 0,
+    }
 }
 
 // A fresh inner record.
 pub fn inner_of(number: u32, rank: u32, left: u32, right: u32) -> Rec
     ensures { λ r. ⌜ r ≡ innerOf number rank left right ⌝ }
 {
-    Rec { state: 1, number: number, price: 0, rank: rank, left: left, right: right }
+    Rec {
+        state: 1,
+        number: number,
+        price: 0,
+        rank: rank,
+        left: left,
+        right: right,
+    }
 }
 
 // The rank of the new inner record.
@@ -124,7 +145,10 @@ fn put_room(t: &mut [u32], n: u32, j: Job, q: Path, left: bool, p: Rec, h: Rec) 
         return calm_turn(Turn::Done(Answer::NoRoom));
     }
     put_writes(t, n, j, q, left, h, s);
-    Outcome { turn: put_turn(j, p, h), committed: true }
+    Outcome {
+        turn: put_turn(j, p, h),
+        committed: true,
+    }
 }
 
 // The limit, looked at after the test.
@@ -159,14 +183,24 @@ pub fn read_put_parent(n: u32, j: Job, q: Path, p: Rec) -> Turn
     ensures { λ a. ⌜ a ≡ readPutParent n j q p ⌝ }
 {
     let good = in_tree(p) & lead_to(links_of(p), q.here);
-    read_record(busy_in(j, Phase::PuttingIn(q, PutStage::PutParent)), well_formed(n, q.parent, p), good, p)
+    read_record(
+        busy_in(j, Phase::PuttingIn(q, PutStage::PutParent)),
+        well_formed(n, q.parent, p),
+        good,
+        p,
+    )
 }
 
 // The reading of the leaf.
 pub fn read_put_leaf(n: u32, j: Job, q: Path, a: Links, h: Rec) -> Turn
     ensures { λ b. ⌜ b ≡ readPutLeaf n j q a h ⌝ }
 {
-    read_record(busy_in(j, Phase::PuttingIn(q, PutStage::PutLeaf(a))), is_linked(n, q.here, h), in_tree(h), h)
+    read_record(
+        busy_in(j, Phase::PuttingIn(q, PutStage::PutLeaf(a))),
+        is_linked(n, q.here, h),
+        in_tree(h),
+        h,
+    )
 }
 
 // A step of a put-in that has walked.

@@ -85,7 +85,14 @@ fn less_one(d: u32) -> u32
 fn lost_below(left: u32) -> Below
     ensures { λ r. ⌜ r ≡ lostBelow left ⌝ }
 {
-    Below { fine: false, left: left, level: 0, fares: 0, depth: 0, height: 0 }
+    Below {
+        fine: false,
+        left: left,
+        level: 0,
+        fares: 0,
+        depth: 0,
+        height: 0,
+    }
 }
 
 fn leaf_below(p: Rec, r: Rec, left: u32) -> Below
@@ -93,7 +100,14 @@ fn leaf_below(p: Rec, r: Rec, left: u32) -> Below
 {
     let level = one_if(is_level(p, r));
     let fares = one_if(is_fare(r));
-    Below { fine: true, left: left, level: level, fares: fares, depth: fares, height: 0 }
+    Below {
+        fine: true,
+        left: left,
+        level: level,
+        fares: fares,
+        depth: fares,
+        height: 0,
+    }
 }
 
 fn inner_below(p: Rec, r: Rec, a: Below, b: Below) -> Below
@@ -104,7 +118,14 @@ fn inner_below(p: Rec, r: Rec, a: Below, b: Below) -> Below
     let fares = a.fares + b.fares;
     let depth = deeper_by(larger_of(a.depth, b.depth));
     let height = less_one(a.depth);
-    Below { fine: true, left: b.left, level: level, fares: fares, depth: depth, height: height }
+    Below {
+        fine: true,
+        left: b.left,
+        level: level,
+        fares: fares,
+        depth: depth,
+        height: height,
+    }
 }
 
 // The way down from slot s, below p, marking each slot once.
@@ -153,7 +174,19 @@ fn sweep_slot(t: &mut [u32], n: u32, s: u32, mark: u8)
     if mark != 0 {
         return;
     }
-    put_fill(t, n, s, Rec { state: 0, number: 0, price: 0, rank: 0, left: 0, right: 0 });
+    put_fill(
+        t,
+        n,
+        s,
+        Rec {
+            state: 0,
+            number: 0,
+            price: 0,
+            rank: 0,
+            left: 0,
+            right: 0,
+        },
+    );
 }
 
 pub fn sweep_all(t: &mut [u32], marks: &[u8], n: u32)
@@ -194,7 +227,10 @@ pub fn write_fares(t: &[u32], room: &mut [u32], n: u32, s: u32, at: usize, left:
     let r = load(t, n, s);
     if is_leaf(r) {
         let next = write_line(room, at, r);
-        return Written { at: next, left: left - 1 };
+        return Written {
+            at: next,
+            left: left - 1,
+        };
     }
     let a = write_fares(t, room, n, r.left, at, left - 1);
     write_fares(t, room, n, r.right, a.at, a.left)

@@ -212,4 +212,3 @@ module _ (t : List ℕ) (st : State) (i : ℕ) where
   pub step-refused : Spares t st i (stepOf t st i)
   unfolding stepOf
   step-refused = if-elim (Spares t st i) _ (λ e. untouched t st i Length) (λ e. if-elim (Spares t st i) _ (λ f. untouched t st i TaskNumber) (λ f. work-spares _))
-

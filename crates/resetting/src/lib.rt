@@ -31,8 +31,32 @@ fn lay_out(t: &mut [u32], n: u32)
     ensures { λ _. ⌜ now (t .exit) ≡ emptyTable (length (now (t .entry))) ⌝ }
 {
     clear(t);
-    put_fill(t, n, 0, Rec { state: 1, number: 4294967295, price: 0, rank: 255, left: 1, right: 0 });
-    put_fill(t, n, 1, Rec { state: 1, number: 4294967295, price: 0, rank: 255, left: 0, right: 0 });
+    put_fill(
+        t,
+        n,
+        0,
+        Rec {
+            state: 1,
+            number: 4294967295,
+            price: 0,
+            rank: 255,
+            left: 1,
+            right: 0,
+        },
+    );
+    put_fill(
+        t,
+        n,
+        1,
+        Rec {
+            state: 1,
+            number: 4294967295,
+            price: 0,
+            rank: 255,
+            left: 0,
+            right: 0,
+        },
+    );
 }
 
 // The table and the state start anew.
@@ -41,8 +65,14 @@ pub fn reset(t: &mut [u32], st: State) -> Out
 {
     let l = t.len();
     if !length_fits(l) {
-        return Out { state: st, answer: Answer::Length };
+        return Out {
+            state: st,
+            answer: Answer::Length,
+        };
     }
     lay_out(t, slots_of(l));
-    Out { state: fresh_state(), answer: Answer::Accepted }
+    Out {
+        state: fresh_state(),
+        answer: Answer::Accepted,
+    }
 }

@@ -52,7 +52,10 @@ pub fn two_slots(t: &[u32], n: u32) -> Pair
 {
     let first = free_from(t, n, 1);
     let second = free_from(t, n, first + 1);
-    Pair { first: first, second: second }
+    Pair {
+        first: first,
+        second: second,
+    }
 }
 
 pub fn three_slots(t: &[u32], n: u32) -> Triple
@@ -62,7 +65,11 @@ pub fn three_slots(t: &[u32], n: u32) -> Triple
     let first = free_from(t, n, 1);
     let second = free_from(t, n, first + 1);
     let third = free_from(t, n, second + 1);
-    Triple { first: first, second: second, third: third }
+    Triple {
+        first: first,
+        second: second,
+        third: third,
+    }
 }
 
 fn one_if_free(state: u32) -> u32

@@ -110,7 +110,13 @@ pub fn around_of(q: Path, a: Links, b: Links, c: Links) -> Around
     let s = other_link(b, q.here);
     let y = link_at(!side, c);
     let w = link_at(side, c);
-    Around { high: a.left == q.parent, side: side, s: s, y: y, w: w }
+    Around {
+        high: a.left == q.parent,
+        side: side,
+        s: s,
+        y: y,
+        w: w,
+    }
 }
 
 // Promote: z's copy with one rank more.
@@ -136,7 +142,18 @@ fn two_records(t: &mut [u32], n: u32, q: Path, o: Around, top: Rec, below: Rec, 
 }
 
 // Rotate: x on top with rank rx, z below it with rank rz.
-pub fn rotate_writes(t: &mut [u32], n: u32, q: Path, o: Around, z: Rec, x: Rec, rx: u32, rz: u32, i: u32, k: u32)
+pub fn rotate_writes(
+    t: &mut [u32],
+    n: u32,
+    q: Path,
+    o: Around,
+    z: Rec,
+    x: Rec,
+    rx: u32,
+    rz: u32,
+    i: u32,
+    k: u32,
+)
     requires { ⌜ Sized (now t) n × (i < n) × (k < n) × (q .parent < n) × (q .here < n) × (q .grand < n) ⌝ }
     ensures { λ _. ⌜ now (t .exit) ≡ puts (now (t .entry)) (rotateWrites q o z x rx rz i k) ⌝ }
 {
@@ -159,7 +176,18 @@ fn double_z(o: Around, d: Links, z: Rec) -> Rec
 }
 
 // The seven writes of a double rotation: left and right are the records below y's copy.
-fn seven_writes(t: &mut [u32], n: u32, q: Path, o: Around, top: Rec, left: Rec, right: Rec, i: u32, k: u32, l: u32)
+fn seven_writes(
+    t: &mut [u32],
+    n: u32,
+    q: Path,
+    o: Around,
+    top: Rec,
+    left: Rec,
+    right: Rec,
+    i: u32,
+    k: u32,
+    l: u32,
+)
     requires { ⌜ Sized (now t) n × (i < n) × (k < n) × (l < n) × (q .parent < n) × (q .here < n) × (q .grand < n) × (o .y < n) ⌝ }
     ensures { λ _. ⌜ now (t .exit) ≡ puts (now (t .entry)) (sevenWrites q o top left right i k l) ⌝ }
 {
@@ -173,7 +201,19 @@ fn seven_writes(t: &mut [u32], n: u32, q: Path, o: Around, top: Rec, left: Rec, 
 }
 
 // Double rotation: y on top, x and z below it on their sides.
-pub fn double_writes(t: &mut [u32], n: u32, q: Path, o: Around, d: Links, z: Rec, x: Rec, y: Rec, i: u32, k: u32, l: u32)
+pub fn double_writes(
+    t: &mut [u32],
+    n: u32,
+    q: Path,
+    o: Around,
+    d: Links,
+    z: Rec,
+    x: Rec,
+    y: Rec,
+    i: u32,
+    k: u32,
+    l: u32,
+)
     requires { ⌜ Sized (now t) n × (y .rank < 4294967295) × (i < n) × (k < n) × (l < n) × (q .parent < n) × (q .here < n) × (q .grand < n) × (o .y < n) ⌝ }
     ensures { λ _. ⌜ now (t .exit) ≡ puts (now (t .entry)) (doubleWrites q o d z x y i k l) ⌝ }
 {

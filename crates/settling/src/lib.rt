@@ -42,14 +42,24 @@ pub fn read_grand(n: u32, j: Job, q: Path, pz: Rec) -> Turn
     ensures { λ a. ⌜ a ≡ readGrand n j q pz ⌝ }
 {
     let good = in_tree(pz) & lead_to(links_of(pz), q.parent);
-    read_record(busy_in(j, Phase::Settling(q, SettleStage::SettleGrand)), well_formed(n, q.grand, pz), good, pz)
+    read_record(
+        busy_in(j, Phase::Settling(q, SettleStage::SettleGrand)),
+        well_formed(n, q.grand, pz),
+        good,
+        pz,
+    )
 }
 
 pub fn read_parent(n: u32, j: Job, q: Path, a: Links, z: Rec) -> Turn
     ensures { λ b. ⌜ b ≡ readParent n j q a z ⌝ }
 {
     let good = in_tree(z) & lead_to(links_of(z), q.here);
-    read_record(busy_in(j, Phase::Settling(q, SettleStage::SettleParent(a))), well_formed(n, q.parent, z), good, z)
+    read_record(
+        busy_in(j, Phase::Settling(q, SettleStage::SettleParent(a))),
+        well_formed(n, q.parent, z),
+        good,
+        z,
+    )
 }
 
 // x or y, which the choice has found well formed.
@@ -73,7 +83,17 @@ pub fn grounds_three(n: u32, q: Path, a: Links, b: Links, pz: Rec, z: Rec, x: Re
     grounds_two(n, q, a, b, pz, z, x) & ((q.grand != q.here) & (q.parent != q.here))
 }
 
-pub fn grounds_four(n: u32, q: Path, a: Links, b: Links, i: u32, pz: Rec, z: Rec, x: Rec, y: Rec) -> bool
+pub fn grounds_four(
+    n: u32,
+    q: Path,
+    a: Links,
+    b: Links,
+    i: u32,
+    pz: Rec,
+    z: Rec,
+    x: Rec,
+    y: Rec,
+) -> bool
     ensures { λ r. ⌜ r ≡ groundsFour n q a b i pz z x y ⌝ }
 {
     let apart = (q.grand != i) & ((q.parent != i) & (q.here != i));
@@ -123,7 +143,17 @@ fn promote_do(t: &mut [u32], n: u32, j: Job, q: Path, high: bool, b: Links, z: R
 }
 
 // Rotate, with the new ranks of x and z.
-fn rotate_do(t: &mut [u32], n: u32, j: Job, q: Path, o: Around, z: Rec, x: Rec, rx: u32, rz: u32) -> Outcome
+fn rotate_do(
+    t: &mut [u32],
+    n: u32,
+    j: Job,
+    q: Path,
+    o: Around,
+    z: Rec,
+    x: Rec,
+    rx: u32,
+    rz: u32,
+) -> Outcome
     requires { ⌜ Sized (now t) n × (q .parent < n) × (q .here < n) × (q .grand < n) ⌝ }
     ensures { λ r. ⌜ acted (now (t .exit)) r ≡ played (now (t .entry)) (rotateDo (view n (now (t .entry))) n j q o z x rx rz) ⌝ }
 {
@@ -146,7 +176,17 @@ fn rotate_two_do(t: &mut [u32], n: u32, j: Job, q: Path, o: Around, z: Rec, x: R
 }
 
 // Double rotation.
-fn double_do(t: &mut [u32], n: u32, j: Job, q: Path, o: Around, d: Links, z: Rec, x: Rec, y: Rec) -> Outcome
+fn double_do(
+    t: &mut [u32],
+    n: u32,
+    j: Job,
+    q: Path,
+    o: Around,
+    d: Links,
+    z: Rec,
+    x: Rec,
+    y: Rec,
+) -> Outcome
     requires { ⌜ Sized (now t) n × (y .rank < 4294967295) × (q .parent < n) × (q .here < n) × (q .grand < n) × (o .y < n) ⌝ }
     ensures { λ r. ⌜ acted (now (t .exit)) r ≡ played (now (t .entry)) (doubleDo (view n (now (t .entry))) n j q o d z x y) ⌝ }
 {
@@ -159,7 +199,16 @@ fn double_do(t: &mut [u32], n: u32, j: Job, q: Path, o: Around, d: Links, z: Rec
 }
 
 // The change by its row.
-pub fn promote_by(t: &mut [u32], n: u32, row: ParentRow, j: Job, q: Path, a: Links, b: Links, z: Rec) -> Outcome
+pub fn promote_by(
+    t: &mut [u32],
+    n: u32,
+    row: ParentRow,
+    j: Job,
+    q: Path,
+    a: Links,
+    b: Links,
+    z: Rec,
+) -> Outcome
     requires { ⌜ Sized (now t) n × (q .parent < n) × (q .grand < n) ⌝ }
     ensures { λ r. ⌜ acted (now (t .exit)) r ≡ played (now (t .entry)) (promoteBy row (view n (now (t .entry))) n j q a b z) ⌝ }
 {
@@ -170,7 +219,16 @@ pub fn promote_by(t: &mut [u32], n: u32, row: ParentRow, j: Job, q: Path, a: Lin
     }
 }
 
-pub fn rotate_by(t: &mut [u32], n: u32, row: LevelRow, j: Job, q: Path, o: Around, z: Rec, x: Rec) -> Outcome
+pub fn rotate_by(
+    t: &mut [u32],
+    n: u32,
+    row: LevelRow,
+    j: Job,
+    q: Path,
+    o: Around,
+    z: Rec,
+    x: Rec,
+) -> Outcome
     requires { ⌜ Sized (now t) n × (q .parent < n) × (q .here < n) × (q .grand < n) ⌝ }
     ensures { λ r. ⌜ acted (now (t .exit)) r ≡ played (now (t .entry)) (rotateBy row (view n (now (t .entry))) n j q o z x) ⌝ }
 {
@@ -182,7 +240,18 @@ pub fn rotate_by(t: &mut [u32], n: u32, row: LevelRow, j: Job, q: Path, o: Aroun
     }
 }
 
-pub fn double_by(t: &mut [u32], n: u32, row: LevelRow, j: Job, q: Path, o: Around, d: Links, z: Rec, x: Rec, y: Rec) -> Outcome
+pub fn double_by(
+    t: &mut [u32],
+    n: u32,
+    row: LevelRow,
+    j: Job,
+    q: Path,
+    o: Around,
+    d: Links,
+    z: Rec,
+    x: Rec,
+    y: Rec,
+) -> Outcome
     requires { ⌜ Sized (now t) n × (row ≡ DoubleRotation → y .rank < 4294967295) × (q .parent < n) × (q .here < n) × (q .grand < n) × (o .y < n) ⌝ }
     ensures { λ r. ⌜ acted (now (t .exit)) r ≡ played (now (t .entry)) (doubleBy row (view n (now (t .entry))) n j q o d z x y) ⌝ }
 {
@@ -193,4 +262,3 @@ pub fn double_by(t: &mut [u32], n: u32, row: LevelRow, j: Job, q: Path, o: Aroun
         LevelRow::DoubleRotation => double_do(t, n, j, q, o, d, z, x, y),
     }
 }
-

@@ -135,11 +135,20 @@ pub fn turn_out(st: State, i: usize, a: Turn, committed: bool) -> Out
     ensures { λ r. ⌜ r ≡ turnedOut st i a committed ⌝ }
 {
     match a {
-        Turn::Hurt => Out { state: st, answer: Answer::Damaged },
-        Turn::Next(k) => Out { state: with_counts(st, i, k, one_if(committed), 0), answer: Answer::Accepted },
+        Turn::Hurt => Out {
+            state: st,
+            answer: Answer::Damaged,
+        },
+        Turn::Next(k) => Out {
+            state: with_counts(st, i, k, one_if(committed), 0),
+            answer: Answer::Accepted,
+        },
         Turn::Done(b) => {
             let more = one_if(number_of(b) == 6);
-            Out { state: with_counts(st, i, Task { work: Work::Idle }, one_if(committed), more), answer: b }
+            Out {
+                state: with_counts(st, i, Task { work: Work::Idle }, one_if(committed), more),
+                answer: b,
+            }
         }
     }
 }
@@ -149,5 +158,9 @@ pub fn fresh_state() -> State
     ensures { λ r. ⌜ r ≡ freshState ⌝ }
 {
     let k = Task::idle();
-    State { tasks: [k; 8], m: 0, u: 0 }
+    State {
+        tasks: [k; 8],
+        m: 0,
+        u: 0,
+    }
 }

@@ -38,12 +38,23 @@ fn is_zero_from(w: Row, from: usize) -> bool {
 }
 
 fn no_task() -> GotTask {
-    GotTask { fine: false, task: Task::idle() }
+    GotTask {
+        fine: false,
+        task: Task::idle(),
+    }
 }
 
 fn got(w: Row, f: Phase) -> GotTask {
-    let j = Job { number: w.at[1], price: w.at[2] };
-    GotTask { fine: true, task: Task { work: Work::Busy(j, f) } }
+    let j = Job {
+        number: w.at[1],
+        price: w.at[2],
+    };
+    GotTask {
+        fine: true,
+        task: Task {
+            work: Work::Busy(j, f),
+        },
+    }
 }
 
 fn goal_of(g: u32) -> Goal {
@@ -56,23 +67,39 @@ fn goal_of(g: u32) -> Goal {
 }
 
 fn path_of(w: Row) -> Path {
-    Path { grand: w.at[4], parent: w.at[5], here: w.at[6] }
+    Path {
+        grand: w.at[4],
+        parent: w.at[5],
+        here: w.at[6],
+    }
 }
 
 fn first(w: Row) -> Links {
-    Links { left: w.at[7], right: w.at[8] }
+    Links {
+        left: w.at[7],
+        right: w.at[8],
+    }
 }
 
 fn second(w: Row) -> Links {
-    Links { left: w.at[9], right: w.at[10] }
+    Links {
+        left: w.at[9],
+        right: w.at[10],
+    }
 }
 
 fn third(w: Row) -> Links {
-    Links { left: w.at[11], right: w.at[12] }
+    Links {
+        left: w.at[11],
+        right: w.at[12],
+    }
 }
 
 fn fourth(w: Row) -> Links {
-    Links { left: w.at[13], right: w.at[14] }
+    Links {
+        left: w.at[13],
+        right: w.at[14],
+    }
 }
 
 // About to walk, and walking.
@@ -144,7 +171,10 @@ fn reader_of(w: Row, phase: u32) -> GotTask {
 pub fn task_of(w: Row) -> GotTask {
     let phase = w.at[0];
     match phase {
-        0 => GotTask { fine: is_zero_from(w, 1), task: Task::idle() },
+        0 => GotTask {
+            fine: is_zero_from(w, 1),
+            task: Task::idle(),
+        },
         1 => walker_of(w, false),
         2 => walker_of(w, true),
         3..=5 => reader_of(w, phase),
@@ -165,7 +195,25 @@ fn goal_number(g: Goal) -> u32 {
 
 // The numbers of a task with its phase, its fourth number and its path.
 fn row_with(phase: u32, j: Job, k: u32, q: Path) -> Row {
-    Row { at: [phase, j.number, j.price, k, q.grand, q.parent, q.here, 0, 0, 0, 0, 0, 0, 0, 0] }
+    Row {
+        at: [
+            phase,
+            j.number,
+            j.price,
+            k,
+            q.grand,
+            q.parent,
+            q.here,
+            0,
+            0,
+            0,
+            0,
+            0,
+            0,
+            0,
+            0,
+        ],
+    }
 }
 
 fn with_first(w: Row, a: Links) -> Row {
@@ -209,9 +257,15 @@ fn take_row(j: Job, q: Path, s: TakeStage) -> Row {
         TakeStage::TakeGrand => row_with(4, j, 0, q),
         TakeStage::TakeParent(a) => with_first(row_with(4, j, 1, q), a),
         TakeStage::TakeLeft(a, b) => with_second(with_first(row_with(4, j, 2, q), a), b),
-        TakeStage::TakeRight(a, b, c) => with_third(with_second(with_first(row_with(4, j, 3, q), a), b), c),
+        TakeStage::TakeRight(a, b, c) => with_third(
+            with_second(with_first(row_with(4, j, 3, q), a), b),
+            c,
+        ),
         TakeStage::TakeCommit(a, b, c, d) => {
-            with_fourth(with_third(with_second(with_first(row_with(4, j, 4, q), a), b), c), d)
+            with_fourth(
+                with_third(with_second(with_first(row_with(4, j, 4, q), a), b), c),
+                d,
+            )
         }
     }
 }
@@ -221,16 +275,31 @@ fn settle_row(j: Job, q: Path, s: SettleStage) -> Row {
         SettleStage::SettleGrand => row_with(5, j, 0, q),
         SettleStage::SettleParent(a) => with_first(row_with(5, j, 1, q), a),
         SettleStage::SettleChoose(a, b) => with_second(with_first(row_with(5, j, 2, q), a), b),
-        SettleStage::SettleRotate(a, b, c) => with_third(with_second(with_first(row_with(5, j, 3, q), a), b), c),
+        SettleStage::SettleRotate(a, b, c) => with_third(
+            with_second(with_first(row_with(5, j, 3, q), a), b),
+            c,
+        ),
         SettleStage::SettleDouble(a, b, c, d) => {
-            with_fourth(with_third(with_second(with_first(row_with(5, j, 4, q), a), b), c), d)
+            with_fourth(
+                with_third(with_second(with_first(row_with(5, j, 4, q), a), b), c),
+                d,
+            )
         }
     }
 }
 
 fn phase_row(j: Job, f: Phase) -> Row {
     match f {
-        Phase::Start(g) => row_with(1, j, goal_number(g), Path { grand: 0, parent: 0, here: 0 }),
+        Phase::Start(g) => row_with(
+            1,
+            j,
+            goal_number(g),
+            Path {
+                grand: 0,
+                parent: 0,
+                here: 0,
+            },
+        ),
         Phase::Walk(g, q) => row_with(2, j, goal_number(g), q),
         Phase::PuttingIn(q, s) => put_row(j, q, s),
         Phase::TakingOut(q, s) => take_row(j, q, s),

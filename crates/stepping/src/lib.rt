@@ -44,10 +44,16 @@ fn step_work(t: &mut [u32], n: u32, st: State, i: usize, w: Work) -> Out
     ensures { λ r. ⌜ after (now (t .exit)) r ≡ stepWork (now (t .entry)) st i w ⌝ }
 {
     match w {
-        Work::Idle => Out { state: st, answer: Answer::TaskIdle },
+        Work::Idle => Out {
+            state: st,
+            answer: Answer::TaskIdle,
+        },
         Work::Busy(j, f) => {
             if !(is_sound(st) & job_fits(j)) {
-                return Out { state: st, answer: Answer::Damaged };
+                return Out {
+                    state: st,
+                    answer: Answer::Damaged,
+                };
             }
             let r = phase_step(t, n, st.m, j, f);
             let a = r.turn;
@@ -62,10 +68,16 @@ pub fn step(t: &mut [u32], st: State, i: u32) -> Out
 {
     let l = t.len();
     if !length_fits(l) {
-        return Out { state: st, answer: Answer::Length };
+        return Out {
+            state: st,
+            answer: Answer::Length,
+        };
     }
     if 7 < i {
-        return Out { state: st, answer: Answer::TaskNumber };
+        return Out {
+            state: st,
+            answer: Answer::TaskNumber,
+        };
     }
     let at = i as usize;
     let k = st.tasks[at];

@@ -66,7 +66,8 @@ fn take_grounds(n: u32, j: Job, q: Path, a: Links, b: Links, g: Rec, p: Rec, l: 
 {
     let h = child_here(q, b, l, r);
     let stands = lead_to(a, q.parent) & (lead_to(b, q.here) & take_leaf(j, h));
-    let children = is_linked(n, b.left, l) & (is_linked(n, b.right, r) & (take_apart(q, b) & stands));
+    let children = is_linked(n, b.left, l)
+        & (is_linked(n, b.right, r) & (take_apart(q, b) & stands));
     well_formed(n, q.grand, g) & (well_formed(n, q.parent, p) & children)
 }
 
@@ -98,11 +99,23 @@ fn take_room(t: &mut [u32], n: u32, q: Path, left: bool, s: Rec, sibling: u32) -
         return calm_turn(Turn::Done(Answer::NoRoom));
     }
     take_writes(t, n, q, left, s, sibling, x);
-    Outcome { turn: Turn::Done(Answer::TakenOut), committed: false }
+    Outcome {
+        turn: Turn::Done(Answer::TakenOut),
+        committed: false,
+    }
 }
 
 // The commit of a take-out.
-pub fn take_commit(t: &mut [u32], n: u32, j: Job, q: Path, a: Links, b: Links, c: Links, d: Links) -> Outcome
+pub fn take_commit(
+    t: &mut [u32],
+    n: u32,
+    j: Job,
+    q: Path,
+    a: Links,
+    b: Links,
+    c: Links,
+    d: Links,
+) -> Outcome
     requires { ⌜ Sized (now t) n ⌝ }
     ensures { λ r. ⌜ acted (now (t .exit)) r ≡ played (now (t .entry)) (takeCommit (view n (now (t .entry))) n j q a b c d) ⌝ }
 {
@@ -125,26 +138,46 @@ pub fn read_take_grand(n: u32, j: Job, q: Path, g: Rec) -> Turn
     ensures { λ a. ⌜ a ≡ readTakeGrand n j q g ⌝ }
 {
     let good = in_tree(g) & lead_to(links_of(g), q.parent);
-    read_record(busy_in(j, Phase::TakingOut(q, TakeStage::TakeGrand)), well_formed(n, q.grand, g), good, g)
+    read_record(
+        busy_in(j, Phase::TakingOut(q, TakeStage::TakeGrand)),
+        well_formed(n, q.grand, g),
+        good,
+        g,
+    )
 }
 
 pub fn read_take_parent(n: u32, j: Job, q: Path, a: Links, p: Rec) -> Turn
     ensures { λ b. ⌜ b ≡ readTakeParent n j q a p ⌝ }
 {
     let good = in_tree(p) & lead_to(links_of(p), q.here);
-    read_record(busy_in(j, Phase::TakingOut(q, TakeStage::TakeParent(a))), well_formed(n, q.parent, p), good, p)
+    read_record(
+        busy_in(j, Phase::TakingOut(q, TakeStage::TakeParent(a))),
+        well_formed(n, q.parent, p),
+        good,
+        p,
+    )
 }
 
 pub fn read_take_left(n: u32, j: Job, q: Path, a: Links, b: Links, l: Rec) -> Turn
     ensures { λ c. ⌜ c ≡ readTakeLeft n j q a b l ⌝ }
 {
-    read_record(busy_in(j, Phase::TakingOut(q, TakeStage::TakeLeft(a, b))), is_linked(n, b.left, l), in_tree(l), l)
+    read_record(
+        busy_in(j, Phase::TakingOut(q, TakeStage::TakeLeft(a, b))),
+        is_linked(n, b.left, l),
+        in_tree(l),
+        l,
+    )
 }
 
 pub fn read_take_right(n: u32, j: Job, q: Path, a: Links, b: Links, c: Links, r: Rec) -> Turn
     ensures { λ d. ⌜ d ≡ readTakeRight n j q a b c r ⌝ }
 {
-    read_record(busy_in(j, Phase::TakingOut(q, TakeStage::TakeRight(a, b, c))), is_linked(n, b.right, r), in_tree(r), r)
+    read_record(
+        busy_in(j, Phase::TakingOut(q, TakeStage::TakeRight(a, b, c))),
+        is_linked(n, b.right, r),
+        in_tree(r),
+        r,
+    )
 }
 
 // A step of a take-out that has walked.
@@ -156,7 +189,15 @@ pub fn take_step(t: &mut [u32], n: u32, j: Job, q: Path, s: TakeStage) -> Outcom
         TakeStage::TakeGrand => calm_turn(read_take_grand(n, j, q, load(t, n, q.grand))),
         TakeStage::TakeParent(a) => calm_turn(read_take_parent(n, j, q, a, load(t, n, q.parent))),
         TakeStage::TakeLeft(a, b) => calm_turn(read_take_left(n, j, q, a, b, load(t, n, b.left))),
-        TakeStage::TakeRight(a, b, c) => calm_turn(read_take_right(n, j, q, a, b, c, load(t, n, b.right))),
+        TakeStage::TakeRight(a, b, c) => calm_turn(read_take_right(
+            n,
+            j,
+            q,
+            a,
+            b,
+            c,
+            load(t, n, b.right),
+        )),
         TakeStage::TakeCommit(a, b, c, d) => take_commit(t, n, j, q, a, b, c, d),
     }
 }

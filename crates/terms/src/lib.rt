@@ -270,7 +270,9 @@ impl Task {
     pub fn begun(self, o: Operation, j: Job) -> Task
         ensures { λ r. ⌜ r ≡ begun o j ⌝ }
     {
-        Task { work: Work::Busy(j, Phase::Start(Goal::Serve(o))) }
+        Task {
+            work: Work::Busy(j, Phase::Start(Goal::Serve(o))),
+        }
     }
 
     // A reading is noted.
@@ -280,7 +282,9 @@ impl Task {
         let w = self.work;
         match w {
             Work::Idle => Task { work: Work::Idle },
-            Work::Busy(j, f) => Task { work: Work::Busy(j, f.noted(l)) },
+            Work::Busy(j, f) => Task {
+                work: Work::Busy(j, f.noted(l)),
+            },
         }
     }
 
@@ -291,7 +295,9 @@ impl Task {
         let w = self.work;
         match w {
             Work::Idle => Task { work: Work::Idle },
-            Work::Busy(j, f) => Task { work: Work::Busy(j, Phase::Start(f.goal())) },
+            Work::Busy(j, f) => Task {
+                work: Work::Busy(j, Phase::Start(f.goal())),
+            },
         }
     }
 

@@ -35,14 +35,19 @@ ghost use Rattle.machine.proofs.Writes.{calmly};
 pub fn busy_in(j: Job, f: Phase) -> Task
     ensures { λ r. ⌜ r ≡ busy j f ⌝ }
 {
-    Task { work: Work::Busy(j, f) }
+    Task {
+        work: Work::Busy(j, f),
+    }
 }
 
 // A turn that writes nothing.
 pub fn calm_turn(a: Turn) -> Outcome
     ensures { λ r. ⌜ r ≡ calmly a ⌝ }
 {
-    Outcome { turn: a, committed: false }
+    Outcome {
+        turn: a,
+        committed: false,
+    }
 }
 
 // A leaf is arrived at.
@@ -130,7 +135,18 @@ pub fn walk_from(t: &[u32], n: u32, g: Goal, j: Job, grand: u32, s: u32) -> Turn
         return Turn::Hurt;
     }
     let to = sought_link(j.number, p);
-    walk_to(t, n, g, j, Path { grand: grand, parent: s, here: to }, p)
+    walk_to(
+        t,
+        n,
+        g,
+        j,
+        Path {
+            grand: grand,
+            parent: s,
+            here: to,
+        },
+        p,
+    )
 }
 
 // A walk that goes on from where the task stands.

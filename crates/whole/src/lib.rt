@@ -33,10 +33,16 @@ fn tidy_reached(t: &mut [u32], st: State, marks: &mut [u8], n: u32) -> Out
 {
     let b = reach_all(t, marks, n);
     if !b.fine {
-        return Out { state: st, answer: Answer::Damaged };
+        return Out {
+            state: st,
+            answer: Answer::Damaged,
+        };
     }
     sweep_all(t, marks, n);
-    Out { state: st, answer: Answer::Accepted }
+    Out {
+        state: st,
+        answer: Answer::Accepted,
+    }
 }
 
 // Every slot that the entry does not reach is set to zero.
@@ -45,13 +51,22 @@ pub fn tidy(t: &mut [u32], st: State) -> Out
 {
     let l = t.len();
     if !length_fits(l) {
-        return Out { state: st, answer: Answer::Length };
+        return Out {
+            state: st,
+            answer: Answer::Length,
+        };
     }
     if count_busy(st) != 0 {
-        return Out { state: st, answer: Answer::SomeBusy };
+        return Out {
+            state: st,
+            answer: Answer::SomeBusy,
+        };
     }
     if !is_sound(st) {
-        return Out { state: st, answer: Answer::Damaged };
+        return Out {
+            state: st,
+            answer: Answer::Damaged,
+        };
     }
     let n = slots_of(l);
     let mut marks = [0u8; 4096];
@@ -61,7 +76,18 @@ pub fn tidy(t: &mut [u32], st: State) -> Out
 fn no_report(a: Answer) -> Report
     ensures { λ r. ⌜ r ≡ noReport a ⌝ }
 {
-    Report { answer: a, figures: Figures { height: 0, level: 0, c: 0, m: 0, fares: 0, free: 0, allowed: 0 } }
+    Report {
+        answer: a,
+        figures: Figures {
+            height: 0,
+            level: 0,
+            c: 0,
+            m: 0,
+            fares: 0,
+            free: 0,
+            allowed: 0,
+        },
+    }
 }
 
 fn report(t: &[u32], n: u32, st: State, b: Below) -> Report
@@ -73,7 +99,15 @@ fn report(t: &[u32], n: u32, st: State, b: Below) -> Report
     let allowed = allowed_rank(st.m);
     Report {
         answer: Answer::Accepted,
-        figures: Figures { height: b.height, level: b.level, c: c, m: st.m, fares: b.fares, free: free, allowed: allowed },
+        figures: Figures {
+            height: b.height,
+            level: b.level,
+            c: c,
+            m: st.m,
+            fares: b.fares,
+            free: free,
+            allowed: allowed,
+        },
     }
 }
 

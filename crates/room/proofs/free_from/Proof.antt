@@ -5,7 +5,6 @@ use Rattle.machine.specs.Table.{free, view}
 use mathlib.Core.Path.{_∙_, _≡_, refl, sym}
 use native.Mathlib.Omega.{arith}
 use Rattle.room.proofs.free_from.Statement.{statement}
-
 use Rattle.room.proofs.free_from.Tie as tie
 use Rattle.fields.proofs.state_at.Reads as state-at-reads
 

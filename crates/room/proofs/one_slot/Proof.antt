@@ -1,5 +1,4 @@
 use Rattle.machine.specs.Table.{slot1}
-
 use borrow.Author.Needs.{needs}
 use Rattle.room.proofs.one_slot.Statement.{statement}
 use Rattle.room.proofs.one_slot.Tie as tie

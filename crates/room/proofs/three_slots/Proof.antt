@@ -1,5 +1,4 @@
 use Rattle.machine.specs.Table.{slot1, slot2, slot3}
-
 use native.Mathlib.Omega.{arith}
 use borrow.Author.Needs.{needs}
 use Rattle.room.proofs.three_slots.Statement.{statement}
