@@ -7,3 +7,12 @@ pub if-elim {ℓ} : {A : Type ℓ} (P : A → Type 0) (b : Bool) {x y : A} → (
 unfolding ifB
 if-elim P true f g = f refl
 if-elim P false f g = g refl
+
+-- a test that is known
+pub if-true {ℓ} : {A : Type ℓ} (x y : A) → ifB true x y ≡ x
+unfolding ifB
+if-true x y = refl
+
+pub if-false {ℓ} : {A : Type ℓ} (x y : A) → ifB false x y ≡ y
+unfolding ifB
+if-false x y = refl

@@ -129,7 +129,7 @@ module _ (n : ℕ) where
 
   -- THE law: writes within the table, on the table and on its view
   pub view-law : (t : List ℕ) (ws : List Write) → length t ≡ n * 6 → Within n ws → view n (puts t ws) ≡ upds (view n t) ws
-  unfolding puts upds
+  unfolding puts
   view-law t [] e h = refl
   view-law t (w ∷ ws) e h = view-law (put t w) ws (len-put t w e) (h .1) ∙ ap (λ v. upds v ws) (law₁ t w e (h .0))
 

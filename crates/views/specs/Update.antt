@@ -13,6 +13,11 @@ where-to (fill s r) = s
 where-to (lead s b a) = s
 where-to (off s) = s
 
+-- a link of a record: true is left
+abbrev pub link : Bool → Rec → ℕ
+link true r = r .left
+link false r = r .right
+
 -- a record with one link changed: true is left
 abbrev pub with-link : Bool → ℕ → Rec → Rec
 with-link true a r = record { state = r .state; number = r .number; price = r .price; rank = r .rank; left = a; right = r .right }
@@ -31,7 +36,7 @@ made (off s) r = taken-off r
 unfoldable pub upd : View → Write → View
 upd v w s = ifB (eqb s (where-to w)) (made w (v s)) (v s)
 
-unfoldable pub upds : View → List Write → View
+abbrev pub upds : View → List Write → View
 upds v [] = v
 upds v (w ∷ ws) = upds (upd v w) ws
 

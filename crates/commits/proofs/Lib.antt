@@ -1,0 +1,9 @@
+pub mod Forms
+pub mod Place
+pub mod Moves
+pub mod Writes
+pub mod Commits
+pub mod Shape
+pub mod Grounds
+pub mod Acts
+pub mod Sight

@@ -1,0 +1,1 @@
+// Each commit changes one place of the tree. No code.

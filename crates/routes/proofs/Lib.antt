@@ -1,0 +1,4 @@
+pub mod Level
+pub mod Swap
+pub mod Kept
+pub mod Surgery

@@ -1,0 +1,1 @@
+// Routes, level records, and what every commit keeps. No code.

@@ -1,0 +1,10 @@
+pub mod Facts
+pub mod Rooms
+pub mod Trails
+pub mod Walking
+pub mod Putting
+pub mod Taking
+pub mod Rowing
+pub mod Settling
+pub mod Choosing
+pub mod Steps

@@ -1,0 +1,2 @@
+pub mod Trail
+pub mod Does

@@ -1,0 +1,1 @@
+// What each step does to the tree and to the task. No code.

@@ -1,0 +1,5 @@
+pub mod Plug
+pub mod Counting
+pub mod Search
+pub mod Mirror
+pub mod Held

@@ -1,0 +1,5 @@
+pub mod Tree
+pub mod Rank
+pub mod Order
+pub mod Count
+pub mod Marks

@@ -1,0 +1,1 @@
+// Trees with slots, a hole, order and ranks. No code.
