@@ -25,8 +25,9 @@ use Rattle.machine.specs.Table.{place, lengthFits, view, put, puts, freeFrom, f
 use Rattle.machine.specs.TakeOut.{takeApart, takeLeaf, takeGrounds, takeTest, takeRoom, takeCommit, readTakeGrand, readTakeParent, readTakeLeft, readTakeRight, takeStep}
 use Rattle.machine.specs.Walk.{sought, atLeaf, serveArrival, outranks, settleArrival, arrival, walkTo, walkFrom, walkOn}
 use Rattle.machine.specs.Contract.{after}
+use Rattle.history.specs.Machine.{Machine, real}
 use Rattle.history.specs.History.{Ask, reset, begin, step, abandon, tidy, figures, list, left}
-use Rattle.history.specs.Ledger.{Account, Point, written, countC, added, removed, ends, putStepped, takeStepped, stepped, abandonedBy, entered, stillOpen, advance, goes, started, history}
+use Rattle.history.specs.Ledger.{Account, Point, written, given, putIns, countC, added, removed, ends, putStepped, takeStepped, stepped, abandonedBy, entered, stillOpen, advance, goes, started, history}
 
 equal : List ℕ → List ℕ → Bool
 equal [] [] = true
@@ -38,18 +39,18 @@ equal (x ∷ xs) (y ∷ ys) = eqb x y && equal xs ys
 agrees : Point → Bool
 unfolding equal
 agrees p =
-    let w = written (p .account .held) in
+    let w = written (given (p .account .commits)) in
     let l = listOf (p .table) (p .state) (replicate (length w) 0) in
     let f = figuresOf (p .table) (p .state) in
     eqb (numberOf (l .answer)) 0 && (equal (l .room) w && (eqb (numberOf (f .answer)) 0
-    && (eqb (f .figures .m) (p .account .m) && eqb (f .figures .c) (countC (p .account)))))
+    && (eqb (f .figures .m) (putIns (p .account .commits)) && eqb (f .figures .c) (countC (p .account)))))
 
 -- after every call
 always : Point → List Ask → Bool
 unfolding agrees
 always p [] = agrees p
 always p (c ∷ cs) =
-    let r = always (advance p c) cs in
+    let r = always (advance real p c) cs in
     agrees p && r
 
 puts-in : ℕ → ℕ → ℕ → Ask
@@ -82,12 +83,12 @@ unfolding puts-in takes-out looks-up rounds
 busy-day =
     puts-in 0 10 1 ∷ puts-in 1 20 2 ∷ puts-in 2 30 3 ∷ puts-in 3 40 4 ∷ puts-in 3 50 5 ∷ puts-in 9 50 5 ∷ takes-out 4 1000000
     ∷ rounds 9 ++ abandon 1 ∷ abandon 2 ∷ tidy ∷ rounds 9 ++ takes-out 1 20 ∷ looks-up 2 10 ∷ rounds 12 ++ puts-in 1 25 6 ∷ puts-in 2 10 7 ∷ takes-out 3 99
-    ∷ rounds 12 ++ abandon 0 ∷ abandon 1 ∷ tidy ∷ figures ∷ list 3 ∷ puts-in 0 35 8 ∷ rounds 3 ++ reset ∷ puts-in 0 7 9 ∷ rounds 5 ++ takes-out 0 7 ∷ rounds 9
+    ∷ rounds 12 ++ abandon 0 ∷ abandon 1 ∷ tidy ∷ figures ∷ list (7 ∷ 7 ∷ 7 ∷ []) ∷ puts-in 0 35 8 ∷ rounds 3 ++ reset ∷ puts-in 0 7 9 ∷ rounds 5 ++ takes-out 0 7 ∷ rounds 9
 
 -- a state that is no state of a reset
 before : State
 before = record { tasks = replicate 8 (busy (record { number = 1; price = 1 }) (Start Settle)); m = 5; u = 3 }
 
-agrees-always : T (always (started (replicate 288 7) before) busy-day && always (started (replicate 288 7) before) left-unsettled)
+agrees-always : T (always (started real (replicate 288 7) before) busy-day && always (started real (replicate 288 7) before) left-unsettled)
 unfolding always busy-day left-unsettled before added removed ends putStepped takeStepped stepped abandonedBy entered stillOpen advance goes started history fibonacci fib atMost allowedRank emptyTable resetOf beginOf abandonedOut abandonOf sweep tidyReached tidyOf figuresReached figuresOf listReached listOf ifB reading commitIf leafOf innerRank putGrounds putTest putWrites putTurn putRoom putLimit putCommit readPutParent readPutLeaf putStep reachable reachFrom reach larger deeper inTree sentinel numberFits priceFits fareMarks innerMarks isLink isLeaf isInner plainForm entryForm wellFormed linked level isFare leads still other parentRow levelRow sided linkAt aroundOf rotateWrites doubleWrites readGrand readParent readOn groundsTwo groundsThree groundsFour testTwo testThree testFour promoteDo rotateDo rotateTwoDo doubleDo rotateBy doubleBy promoteBy commitTwo commitThree commitFour chooseFormed turnFormed chooseBy chooseStep rotateOn rotateTurn rotateFirst rotateStep doubleTurn doubleFirst doubleStep settleStep settling busyTasks countOpen sound jobFits askFits phaseStep carried stepWork stepOf place lengthFits view put puts freeFrom free slot1 slot2 slot3 countFree takeApart takeLeaf takeGrounds takeTest takeRoom takeCommit readTakeGrand readTakeParent readTakeLeft readTakeRight takeStep sought atLeaf serveArrival outranks settleArrival arrival walkTo walkFrom walkOn after
 agrees-always = tt

@@ -13,8 +13,18 @@ use Rattle.machine.specs.Choice.{ifB}
 use Rattle.machine.specs.Answers.{numberOf}
 use Rattle.machine.specs.State.{taskAt}
 use Rattle.machine.specs.Step.{Left}
-use Rattle.machine.specs.Calls.{resetOf}
+use Rattle.history.specs.Machine.{Machine}
 use Rattle.history.specs.History.{Ask, reset, begin, step, abandon, tidy, figures, list, left}
+
+-- a fare: number and price
+pub record Fare : Type 0 where
+  pub number : ℕ
+  pub price : ℕ
+
+-- a put-in or a take-out that committed, with number and price of its begin
+pub data Commit : Type 0 where
+  put : Job → Commit
+  take : Job → Commit
 
 -- what is known of a task: nothing is open, its last accepted begin, or a put-in of it that committed and is not settled yet
 pub data Open : Type 0 where
@@ -22,22 +32,18 @@ pub data Open : Type 0 where
   begun : Operation → Job → Open
   unsettled : Open
 
--- a fare: number and price
-pub record Fare : Type 0 where
-  pub number : ℕ
-  pub price : ℕ
-
--- the account of a history: the eight tasks, the fares in order of number, the put-ins committed, those of them that ended
--- without a 3
+-- the account of a history: the eight tasks, what was committed since the reset, the latest first, and how many put-ins of it
+-- ended without a 3
 pub record Account : Type 0 where
   pub tasks : List Open
-  pub held : List Fare
-  pub m : ℕ
+  pub commits : List Commit
   pub lost : ℕ
 
--- "from the empty one"
+-- at a reset
 abbrev pub opening : Account
-opening = record { tasks = replicate 8 shut; held = []; m = 0; lost = 0 }
+opening = record { tasks = replicate 8 shut; commits = []; lost = 0 }
+
+-- ---- what the commits give
 
 -- a put-in adds a fare, before the first larger number
 unfoldable pub added : ℕ → ℕ → List Fare → List Fare
@@ -53,22 +59,33 @@ removed k (f ∷ fs) =
     let r = removed k fs in
     elim (eqb k (f .number)) [ true ↦ fs | false ↦ f ∷ r ]
 
+-- the fares that the commits give, "in commit order" from none
+abbrev pub given : List Commit → List Fare
+given [] = []
+given (put j ∷ cs) = added (j .number) (j .price) (given cs)
+given (take j ∷ cs) = removed (j .number) (given cs)
+
+-- how many put-ins there are among them: m
+abbrev pub putIns : List Commit → ℕ
+putIns [] = 0
+putIns (put j ∷ cs) = putIns cs + 1
+putIns (take j ∷ cs) = putIns cs
+
+-- ---- which calls commit
+
 abbrev pub openAt : Account → ℕ → Open
 openAt a i = getD (a .tasks) i shut
 
 abbrev pub withOpen : Account → ℕ → Open → Account
-withOpen a i o = record { tasks = set (a .tasks) i o; held = a .held; m = a .m; lost = a .lost }
+withOpen a i o = record { tasks = set (a .tasks) i o; commits = a .commits; lost = a .lost }
 
--- a put-in commits: it goes on to settle, or it is settled at once
-abbrev pub committed : Account → ℕ → Job → Open → Account
-committed a i j o = record { tasks = set (a .tasks) i o; held = added (j .number) (j .price) (a .held); m = a .m + 1; lost = a .lost }
+-- a commit of task i, of which o is known then
+abbrev pub committed : Account → ℕ → Commit → Open → Account
+committed a i c o = record { tasks = set (a .tasks) i o; commits = c ∷ a .commits; lost = a .lost }
 
-abbrev pub takenOut : Account → ℕ → Job → Account
-takenOut a i j = record { tasks = set (a .tasks) i shut; held = removed (j .number) (a .held); m = a .m; lost = a .lost }
-
--- a committed put-in ends: settled with 3, otherwise lost
+-- a committed put-in ends without a 3
 abbrev pub lostOne : Account → ℕ → Account
-lostOne a i = record { tasks = set (a .tasks) i shut; held = a .held; m = a .m; lost = a .lost + 1 }
+lostOne a i = record { tasks = set (a .tasks) i shut; commits = a .commits; lost = a .lost + 1 }
 
 -- an answer that ends the task's operation: 1 to 6, 15, 16
 unfoldable pub ends : ℕ → Bool
@@ -77,13 +94,13 @@ ends x = (ltb 0 x && ltb x 10) || (eqb x 15 || eqb x 16)
 -- "a put-in commits at a step of a task begun with put in and not settling yet, if the step answers 3 or leaves the task settling"
 unfoldable pub putStepped : Account → ℕ → Job → ℕ → Bool → Account
 putStepped a i j x settles =
-    ifB (eqb x 3) (committed a i j shut)
-    (ifB settles (committed a i j unsettled)
+    ifB (eqb x 3) (committed a i (put j) shut)
+    (ifB settles (committed a i (put j) unsettled)
     (ifB (ends x) (withOpen a i shut) a))
 
 -- "a take-out commits at answer 5"
 unfoldable pub takeStepped : Account → ℕ → Job → ℕ → Account
-takeStepped a i j x = ifB (eqb x 5) (takenOut a i j) (ifB (ends x) (withOpen a i shut) a)
+takeStepped a i j x = ifB (eqb x 5) (committed a i (take j) shut) (ifB (ends x) (withOpen a i shut) a)
 
 -- a step of task i that answered x and left the task settling or not
 unfoldable pub stepped : Open → Account → ℕ → ℕ → Bool → Account
@@ -109,7 +126,8 @@ entered a tidy l = a
 entered a figures l = a
 entered a (list room) l = a
 
--- the put-ins committed that have not ended as settled: the lost ones, and those of tasks that still settle
+-- ---- c: the put-ins committed that have not ended as settled: the lost ones, and those of tasks that still settle
+
 abbrev pub oneUnsettled : Open → ℕ
 oneUnsettled shut = 0
 oneUnsettled (begun o j) = 0
@@ -122,10 +140,7 @@ stillOpen (o ∷ os) = oneUnsettled o + stillOpen os
 abbrev pub countC : Account → ℕ
 countC a = a .lost + stillOpen (a .tasks)
 
--- the fares as the list call writes them
-abbrev pub written : List Fare → List ℕ
-written [] = []
-written (f ∷ fs) = f .number ∷ f .price ∷ written fs
+-- ---- histories
 
 -- where a history stands: table, state, account
 pub record Point : Type 0 where
@@ -137,17 +152,22 @@ abbrev pub noted : Point → Ask → Left → Point
 noted p c l = record { table = l .table; state = l .state; account = entered (p .account) c l }
 
 -- one call more
-unfoldable pub advance : Point → Ask → Point
-advance p c = noted p c (left (p .table) (p .state) c)
+unfoldable pub advance : Machine → Point → Ask → Point
+advance M p c = noted p c (left M (p .table) (p .state) c)
 
--- "in commit order": the order of the calls
-unfoldable pub goes : Point → List Ask → Point
-goes p [] = p
-goes p (c ∷ cs) = goes (advance p c) cs
+-- the commit order is the order of the calls
+unfoldable pub goes : Machine → Point → List Ask → Point
+goes M p [] = p
+goes M p (c ∷ cs) = goes M (advance M p c) cs
 
 -- a history starts with the reset call, on any table and any state
-unfoldable pub started : List ℕ → State → Point
-started t st = record { table = resetOf t st .table; state = resetOf t st .state; account = opening }
+unfoldable pub started : Machine → List ℕ → State → Point
+started M t st = record { table = M .reset t st .table; state = M .reset t st .state; account = opening }
 
-unfoldable pub history : List ℕ → State → List Ask → Point
-history t st cs = goes (started t st) cs
+unfoldable pub history : Machine → List ℕ → State → List Ask → Point
+history M t st cs = goes M (started M t st) cs
+
+-- the fares as the list call writes them
+abbrev pub written : List Fare → List ℕ
+written [] = []
+written (f ∷ fs) = f .number ∷ f .price ∷ written fs

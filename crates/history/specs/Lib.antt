@@ -1,2 +1,4 @@
+pub mod Machine
 pub mod History
 pub mod Ledger
+pub mod Fares

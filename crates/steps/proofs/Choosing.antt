@@ -43,7 +43,7 @@ use Rattle.trees.proofs.Held.{Carries}
 use Rattle.trees.specs.Tree.{Tree}
 use Rattle.views.specs.Update.{link}
 
-module _ (v : View) (t : Tree) (i : Carries v t) (sh : Shape t) (n : ℕ) (j : Job) (q : Path) (up : Upper v q) where
+module _ (v : View) (t : Tree) (i : Carries v t) (sh : Shape t) (n m : ℕ) (j : Job) (q : Path) (up : Upper v q) where
   abbrev g : ℕ
   g = q .grand
 
@@ -54,7 +54,7 @@ module _ (v : View) (t : Tree) (i : Carries v t) (sh : Shape t) (n : ℕ) (j : J
   x = q .here
 
   abbrev Acts : SettleStage → Did → Type 0
-  Acts s = Does v t j (Settling q s)
+  Acts s = Does v t m j (Settling q s)
 
   -- a commit that finds too few slots, or a row that gives 17
   none : (s : SettleStage) → Acts s (calm Hurt)
@@ -123,7 +123,7 @@ module _ (v : View) (t : Tree) (i : Carries v t) (sh : Shape t) (n : ℕ) (j : J
         (λ e. let form = not-false (chooseFormed n q b (v z) (v x) (v o)) e in
         if-elim (Acts (SettleChoose a b)) _
         (λ w. rests _ (read-quiet v t j (Settling q (SettleChoose a b)) (Settling q (SettleRotate a b (linksOf (v x)))) _ _ (v x) refl refl (tr, up) tt))
-        (λ w. commit-does v t j (Settling q (SettleChoose a b)) _ _ _
+        (λ w. commit-does v t m j (Settling q (SettleChoose a b)) _ _ _
         (λ gr te. promote-acts (SettleChoose a b) _ (parent-row (v z .rank) (v o .rank)) (pair-found form gr te) (both-second (still (v g) a) _ te))))
 
     -- x is noted too
@@ -227,7 +227,7 @@ module _ (v : View) (t : Tree) (i : Carries v t) (sh : Shape t) (n : ℕ) (j : J
             if-elim (Acts (SettleRotate a b c)) _ (λ e. none _)
             (λ e. if-elim (Acts (SettleRotate a b c)) _
             (λ d. rests _ (read-quiet v t j (Settling q (SettleRotate a b c)) (Settling q (SettleDouble a b c (linksOf (v yy)))) _ _ (v yy) refl refl (tr, up) tt))
-            (λ d. commit-does v t j (Settling q (SettleRotate a b c)) _ _ _
+            (λ d. commit-does v t m j (Settling q (SettleRotate a b c)) _ _ _
             (λ gr te. let h = test-three te in
             rotate-acts (pair-found form (three-two gr) (h .0)) wide (x-form form) (h .1) (not-false (turnFormed n around (v yy) (v ww)) e) (SettleRotate a b c) _
             (level-row (v x .rank) (v yy .rank) (v ww .rank)))))
@@ -236,7 +236,7 @@ module _ (v : View) (t : Tree) (i : Carries v t) (sh : Shape t) (n : ℕ) (j : J
         unfolding rotateFirst commitThree aroundOf
         rotate-first row f =
             if-elim (Acts (SettleRotate a b c)) _ (λ w. rotate-turn (wide-row row f w))
-            (λ w. commit-does v t j (Settling q (SettleRotate a b c)) _ _ _
+            (λ w. commit-does v t m j (Settling q (SettleRotate a b c)) _ _ _
             (λ gr te. let h = test-three te in promote-acts (SettleRotate a b c) row f (pair-found form (three-two gr) (h .0)) (z-still (h .0))))
 
       rotate-step : Trail v t (j .number) q → Acts (SettleRotate a b c) (rotateStep v n j q a b c (v z) (v x) (v o))
@@ -260,7 +260,7 @@ module _ (v : View) (t : Tree) (i : Carries v t) (sh : Shape t) (n : ℕ) (j : J
           unfolding doubleTurn commitFour aroundOf
           double-turn wide =
               if-elim (Acts (SettleDouble a b c d)) _ (λ e. none _)
-              (λ e. commit-does v t j (Settling q (SettleDouble a b c d)) _ _ _
+              (λ e. commit-does v t m j (Settling q (SettleDouble a b c d)) _ _ _
               (λ gr te. let h = test-four te in let h₂ = test-three (h .0) in
               double-acts (pair-found form (three-two (four-three _ gr)) (h₂ .0)) wide (x-form form) (h₂ .1) (not-false (turnFormed n around (v yy) (v ww)) e) (SettleDouble a b c d) d (h .1) _
               (level-row (v x .rank) (v yy .rank) (v ww .rank))))
@@ -269,7 +269,7 @@ module _ (v : View) (t : Tree) (i : Carries v t) (sh : Shape t) (n : ℕ) (j : J
           unfolding doubleFirst commitFour aroundOf
           double-first row f =
               if-elim (Acts (SettleDouble a b c d)) _ (λ w. double-turn (wide-row row f w))
-              (λ w. commit-does v t j (Settling q (SettleDouble a b c d)) _ _ _
+              (λ w. commit-does v t m j (Settling q (SettleDouble a b c d)) _ _ _
               (λ gr te. let h = test-three (test-four te .0) in promote-acts (SettleDouble a b c d) row f (pair-found form (three-two (four-three _ gr)) (h .0)) (z-still (h .0))))
 
         double-step : Acts (SettleDouble a b c d) (doubleStep v n j q a b c d (v z) (v x) (v o))
@@ -278,11 +278,11 @@ module _ (v : View) (t : Tree) (i : Carries v t) (sh : Shape t) (n : ℕ) (j : J
             if-elim (Acts (SettleDouble a b c d)) _ (λ e. none _)
             (λ e. double-first (not-false (chooseFormed n q b (v z) (v x) (v o)) e) _ (parent-row (v z .rank) (v o .rank)))
 
-pub settle-does : (v : View) (t : Tree) → Carries v t → Shape t → (n : ℕ) (j : Job) (q : Path) → Trail v t (j .number) q → Upper v q → (s : SettleStage) → Does v t j (Settling q s) (settleStep v n j q s)
+pub settle-does : (v : View) (t : Tree) → Carries v t → Shape t → (n m : ℕ) (j : Job) (q : Path) → Trail v t (j .number) q → Upper v q → (s : SettleStage) → Does v t m j (Settling q s) (settleStep v n j q s)
 unfolding settleStep readGrand readParent
-settle-does v t i sh n j q tr up SettleGrand = rests _ (read-quiet v t j (Settling q SettleGrand) (Settling q (SettleParent (linksOf (v (q .grand))))) _ _ (v (q .grand)) refl refl (tr, up) tt)
-settle-does v t i sh n j q tr up (SettleParent a) =
+settle-does v t i sh n m j q tr up SettleGrand = rests _ (read-quiet v t j (Settling q SettleGrand) (Settling q (SettleParent (linksOf (v (q .grand))))) _ _ (v (q .grand)) refl refl (tr, up) tt)
+settle-does v t i sh n m j q tr up (SettleParent a) =
     rests _ (read-quiet v t j (Settling q (SettleParent a)) (Settling q (SettleChoose a (linksOf (v (q .parent))))) _ _ (v (q .parent)) refl refl (tr, up) tt)
-settle-does v t i sh n j q tr up (SettleChoose a b) = choose-acts v t i sh n j q up a b tr
-settle-does v t i sh n j q tr up (SettleRotate a b c) = rotate-step v t i sh n j q up a b c tr
-settle-does v t i sh n j q tr up (SettleDouble a b c d) = double-step v t i sh n j q up a b c d
+settle-does v t i sh n m j q tr up (SettleChoose a b) = choose-acts v t i sh n m j q up a b tr
+settle-does v t i sh n m j q tr up (SettleRotate a b c) = rotate-step v t i sh n m j q up a b c tr
+settle-does v t i sh n m j q tr up (SettleDouble a b c d) = double-step v t i sh n m j q up a b c d

@@ -20,7 +20,7 @@ use Rattle.routes.specs.Route.{Has, full, lv, route}
 use Rattle.steps.proofs.Facts.{Plain, both, differ, formed-plain, leads-to, leaf-links, linked-formed, still-facts}
 use Rattle.steps.proofs.Rooms.{three-free}
 use Rattle.steps.proofs.Walking.{read-quiet}
-use Rattle.steps.specs.Does.{Does, ends, goes, hurts, put-commits, rests}
+use Rattle.steps.specs.Does.{Does, goes, hurts, put-commits, rests, stops}
 use Rattle.steps.specs.Trail.{Fine, Trail}
 use Rattle.terms.specs.Task.{busy, goalOf}
 use Rattle.terms.specs.declared.Answer.the-variants.{Limit, NoRoom}
@@ -40,12 +40,12 @@ use Rattle.trees.specs.Tree.{Tree, leafRec}
 use Rattle.views.specs.Update.{link, upds}
 
 -- a commit: 17 before its test, a test that fails, or the change
-pub commit-does : (v : View) (t : Tree) (j : Job) (f : Phase) (grounds test : Bool) (change : Did) → (grounds ≡ true → test ≡ true → Does v t j f change)
-    → Does v t j f (commitIf (busy j f) grounds test change)
+pub commit-does : (v : View) (t : Tree) (m : ℕ) (j : Job) (f : Phase) (grounds test : Bool) (change : Did) → (grounds ≡ true → test ≡ true → Does v t m j f change)
+    → Does v t m j f (commitIf (busy j f) grounds test change)
 unfolding commitIf
-commit-does v t j f grounds test change h =
-    if-elim (Does v t j f) _ (λ e. rests Hurt hurts)
-    (λ e. if-elim (Does v t j f) _ (λ d. rests _ (goes (Start (goalOf f)) refl tt tt)) (λ d. h (not-false grounds e) (not-false test d)))
+commit-does v t m j f grounds test change h =
+    if-elim (Does v t m j f) _ (λ e. rests Hurt hurts)
+    (λ e. if-elim (Does v t m j f) _ (λ d. rests _ (goes (Start (goalOf f)) refl tt tt)) (λ d. h (not-false grounds e) (not-false test d)))
 
 -- a remembered record that is in state 1 is on the route
 pub on-route : (v : View) (t : Tree) (k s : ℕ) → (s ≡ 0 → ⊥) → v s .state ≡ 1 → Fine v t k s → Has s (route k t)
@@ -117,17 +117,17 @@ module _ (v : View) (t : Tree) (i : Carries v t) (f : Shape t) (n m : ℕ) (j : 
         strict : leaf-rec .number ≤ k → (leaf-rec .number ≡ k → ⊥) → leaf-rec .number < k
         strict h d = omega arith
 
-    changed : Does v t j (PuttingIn q (PutCommit a b)) (putLimit v n m j q side par leaf-rec)
+    changed : Does v t m j (PuttingIn q (PutCommit a b)) (putLimit v n m j q side par leaf-rec)
     unfolding putLimit putRoom putTurn
     changed =
-        if-elim (Does v t j (PuttingIn q (PutCommit a b))) _ (λ e. rests _ (ends PutIn Limit refl (inr (inr refl))))
-        (λ e. if-elim (Does v t j (PuttingIn q (PutCommit a b))) _ (λ d. rests _ (ends PutIn NoRoom refl (inr (inl refl))))
-        (λ d. rw (put-level (par .rank) (leaf-rec .rank) (innerRank leaf-rec) (inner-rank leaf-rec marks)) (put-commits _ _ refl (seen (leb-false n _ d)))))
+        if-elim (Does v t m j (PuttingIn q (PutCommit a b))) _ (λ e. rests _ (stops PutIn Limit refl (inr (inr refl))))
+        (λ e. if-elim (Does v t m j (PuttingIn q (PutCommit a b))) _ (λ d. rests _ (stops PutIn NoRoom refl (inr (inl refl))))
+        (λ d. rw (put-level (par .rank) (leaf-rec .rank) (innerRank leaf-rec) (inner-rank leaf-rec marks)) (put-commits _ _ (leb-false 1000000 m e) refl (seen (leb-false n _ d)))))
 
-  commit : (a b : Links) → Does v t j (PuttingIn q (PutCommit a b)) (putCommit v n m j q a b)
+  commit : (a b : Links) → Does v t m j (PuttingIn q (PutCommit a b)) (putCommit v n m j q a b)
   unfolding putCommit putGrounds putTest
   commit a b =
-      commit-does v t j (PuttingIn q (PutCommit a b)) _ _ _ (λ g e.
+      commit-does v t m j (PuttingIn q (PutCommit a b)) _ _ _ (λ g e.
       let g₁ = both (wellFormed n (q .parent) par) _ g in
       let g₂ = both (linked n (q .here) leaf-rec) _ (g₁ .1) in
       let g₃ = both (not (eqb (q .parent) (q .here))) _ (g₂ .1) in
@@ -140,7 +140,7 @@ module _ (v : View) (t : Tree) (i : Carries v t) (f : Shape t) (n m : ℕ) (j : 
       changed a b (leaf-marks n leaf-rec (formed-plain n (q .here) leaf-rec (l .1) (l .0)) end) (differ _ _ (g₅ .1)) (still-facts par a (e₁ .0) .0)
       (to .1) (l .0) end (still-facts leaf-rec b (e₁ .1) .0))
 
-  pub put-does : (s : PutStage) → Does v t j (PuttingIn q s) (putStep v n m j q s)
+  pub put-does : (s : PutStage) → Does v t m j (PuttingIn q s) (putStep v n m j q s)
   unfolding putStep readPutParent readPutLeaf
   put-does PutParent = rests _ (read-quiet v t j (PuttingIn q PutParent) (PuttingIn q (PutLeaf (linksOf par))) _ _ par refl refl tr tt)
   put-does (PutLeaf a) = rests _ (read-quiet v t j (PuttingIn q (PutLeaf a)) (PuttingIn q (PutCommit a (linksOf leaf-rec))) _ _ leaf-rec refl refl tr tt)

@@ -16,10 +16,10 @@ use Rattle.terms.specs.declared.Work.the-variants.{Busy}
 use Rattle.trees.proofs.Held.{Carries}
 use Rattle.trees.specs.Tree.{Tree}
 
-pub step-does : (v : View) (t : Tree) → Carries v t → Shape t → (n m : ℕ) (j : Job) (f : Phase) → WorkOk v t (Busy j f) → Does v t j f (phaseStep v n m j f)
+pub step-does : (v : View) (t : Tree) → Carries v t → Shape t → (n m : ℕ) (j : Job) (f : Phase) → WorkOk v t (Busy j f) → Does v t m j f (phaseStep v n m j f)
 unfolding phaseStep
 step-does v t i sh n m j (Start g) ok = rests _ (start-quiet v t i n j (ok .0) g)
 step-does v t i sh n m j (Walk g q) ok = rests _ (walk-quiet v t i n j (ok .0) g q (ok .2))
 step-does v t i sh n m j (PuttingIn q s) ok = put-does v t i sh n m j (ok .0) (ok .1) q (ok .2) s
-step-does v t i sh n m j (TakingOut q s) ok = take-does v t i n j (ok .0) q (ok .2) s
-step-does v t i sh n m j (Settling q s) ok = settle-does v t i sh n j q (ok .2 .0) (ok .2 .1) s
+step-does v t i sh n m j (TakingOut q s) ok = take-does v t i n m j (ok .0) q (ok .2) s
+step-does v t i sh n m j (Settling q s) ok = settle-does v t i sh n m j q (ok .2 .0) (ok .2 .1) s

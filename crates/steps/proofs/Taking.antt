@@ -18,7 +18,7 @@ use Rattle.steps.proofs.Facts.{both, formed-plain, inner-by, leads-to, 
 use Rattle.steps.proofs.Putting.{commit-does}
 use Rattle.steps.proofs.Rooms.{one-free}
 use Rattle.steps.proofs.Walking.{read-quiet}
-use Rattle.steps.specs.Does.{Does, ends, rests, take-commits}
+use Rattle.steps.specs.Does.{Does, rests, stops, take-commits}
 use Rattle.steps.specs.Trail.{Trail}
 use Rattle.terms.specs.declared.Answer.the-variants.{NoRoom}
 use Rattle.terms.specs.declared.Job.{Job}
@@ -49,7 +49,7 @@ seen-at : (v : View) (t : Tree) → Carries v t → (k g p h o x : ℕ) (e b : B
 seen-at v t i k g p h o x e b lt one to nz inner on beside end is free =
     rw (beside, ← is, ← on) (take-seen v t i g p x e b one to nz inner (ap (λ y. v y .left) on ∙ end) (rw (on, is) lt) free)
 
-module _ (v : View) (t : Tree) (i : Carries v t) (n : ℕ) (j : Job) (lt : j .number < 1000000) (q : Path) (tr : Trail v t (j .number) q) where
+module _ (v : View) (t : Tree) (i : Carries v t) (n m : ℕ) (j : Job) (lt : j .number < 1000000) (q : Path) (tr : Trail v t (j .number) q) where
   abbrev gr : Rec
   gr = v (q .grand)
 
@@ -64,16 +64,16 @@ module _ (v : View) (t : Tree) (i : Carries v t) (n : ℕ) (j : Job) (lt : j .nu
         seen-at v t i (j .number) (q .grand) (q .parent) (q .here) (other b (q .here)) (slot1 v n) (eqb (a .left) (q .parent)) (eqb (b .left) (q .here)) lt one to-par nz inner
         to-leaf beside end is (one-free v n room)
 
-    changed : Does v t j (TakingOut q (TakeCommit a b c d)) (takeRoom v n q (eqb (a .left) (q .parent)) (v (other b (q .here))) (other b (q .here)))
+    changed : Does v t m j (TakingOut q (TakeCommit a b c d)) (takeRoom v n q (eqb (a .left) (q .parent)) (v (other b (q .here))) (other b (q .here)))
     unfolding takeRoom
     changed =
-        if-elim (Does v t j (TakingOut q (TakeCommit a b c d))) _ (λ e. rests _ (ends TakeOut NoRoom refl (inr refl)))
+        if-elim (Does v t m j (TakingOut q (TakeCommit a b c d))) _ (λ e. rests _ (stops TakeOut NoRoom refl (inr refl)))
         (λ e. take-commits _ refl (seen (leb-false n _ e)))
 
-  commit : (a b c d : Links) → Does v t j (TakingOut q (TakeCommit a b c d)) (takeCommit v n j q a b c d)
+  commit : (a b c d : Links) → Does v t m j (TakingOut q (TakeCommit a b c d)) (takeCommit v n j q a b c d)
   unfolding takeCommit takeGrounds takeTest takeLeaf
   commit a b c d =
-      commit-does v t j (TakingOut q (TakeCommit a b c d)) _ _ _ (λ g e.
+      commit-does v t m j (TakingOut q (TakeCommit a b c d)) _ _ _ (λ g e.
       let g₁ = both (wellFormed n (q .grand) gr) _ g in
       let g₂ = both (wellFormed n (q .parent) par) _ (g₁ .1) in
       let g₃ = both (linked n (b .left) (v (b .left))) _ (g₂ .1) in
@@ -91,7 +91,7 @@ module _ (v : View) (t : Tree) (i : Carries v t) (n : ℕ) (j : Job) (lt : j .nu
       (inner-by n par (eqb (b .left) (q .here)) (formed-plain n (q .parent) par (g₂ .0) (to .0)) (λ z. on .0 (sym (on .1) ∙ z)))
       (on .1) (other-link par b (q .here) (e₂ .0)) (leaf-links (v (q .here)) (leaf-test .0) .0) (eqb-true _ _ (leaf-test .1)))
 
-  pub take-does : (s : TakeStage) → Does v t j (TakingOut q s) (takeStep v n j q s)
+  pub take-does : (s : TakeStage) → Does v t m j (TakingOut q s) (takeStep v n j q s)
   unfolding takeStep readTakeGrand readTakeParent readTakeLeft readTakeRight
   take-does TakeGrand = rests _ (read-quiet v t j (TakingOut q TakeGrand) (TakingOut q (TakeParent (linksOf gr))) _ _ gr refl refl tr tt)
   take-does (TakeParent a) = rests _ (read-quiet v t j (TakingOut q (TakeParent a)) (TakingOut q (TakeLeft a (linksOf par))) _ _ par refl refl tr tt)

@@ -13,7 +13,7 @@ use Rattle.machine.specs.Walk.{arrival, atLeaf, serveArrival, settleArrival, so
 use Rattle.routes.specs.Route.{here, lv, next}
 use Rattle.steps.proofs.Facts.{formed-used, leaf-links, linked-formed, not-level}
 use Rattle.steps.proofs.Trails.{entry-fine, fine-used, next-sought, step-fine}
-use Rattle.steps.specs.Does.{Moves, Quiet, ends, goes, hurts, settled, standing, walks}
+use Rattle.steps.specs.Does.{Moves, Quiet, goes, hurts, settled, standing, stops, walks}
 use Rattle.steps.specs.Trail.{Fine, Lower, PhaseOk, Trail, Upper}
 use Rattle.terms.specs.Task.{busy, goalOf, noGrand, noted}
 use Rattle.terms.specs.declared.Answer.the-variants.{Found, HeldAlready, NotHeld}
@@ -64,9 +64,9 @@ module _ (v : View) (t : Tree) (i : Carries v t) (n : ℕ) (j : Job) (lt : j .nu
 
     serve-leaf : (o : Operation) → goalOf f ≡ Serve o → Quiet v t j f (atLeaf o j q (v (q .here)))
     unfolding atLeaf
-    serve-leaf LookUp g = if-elim (Quiet v t j f) _ (λ e. ends LookUp (Found (v (q .here) .price)) g (inl refl)) (λ e. ends LookUp NotHeld g (inr refl))
-    serve-leaf PutIn g = if-elim (Quiet v t j f) _ (λ e. ends PutIn HeldAlready g (inl refl)) (λ e. goes (PuttingIn q PutParent) (sym g) came tt)
-    serve-leaf TakeOut g = if-elim (Quiet v t j f) _ (λ e. goes (TakingOut q TakeGrand) (sym g) came tt) (λ e. ends TakeOut NotHeld g (inl refl))
+    serve-leaf LookUp g = if-elim (Quiet v t j f) _ (λ e. stops LookUp (Found (v (q .here) .price)) g (inl refl)) (λ e. stops LookUp NotHeld g (inr refl))
+    serve-leaf PutIn g = if-elim (Quiet v t j f) _ (λ e. stops PutIn HeldAlready g (inl refl)) (λ e. goes (PuttingIn q PutParent) (sym g) came tt)
+    serve-leaf TakeOut g = if-elim (Quiet v t j f) _ (λ e. goes (TakingOut q TakeGrand) (sym g) came tt) (λ e. stops TakeOut NotHeld g (inl refl))
 
     serve : (o : Operation) → goalOf f ≡ Serve o → Quiet v t j f (serveArrival o j q (v (q .here)))
     unfolding serveArrival

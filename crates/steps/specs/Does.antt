@@ -1,10 +1,11 @@
 -- WHAT A STEP DOES, once for all theorems: its task moves on and nothing is written, or it commits.
-use Prim.Native.Nat.{ℕ}
+use Prim.Native.Nat.{_<_, ℕ}
 use mathlib.Core.Bool.{Bool, false, true}
 use mathlib.Core.List.{List}
 use mathlib.Core.Logic.{_⊎_}
 use mathlib.Core.Path.{_≡_}
 use Rattle.commits.proofs.Acts.{settles, takes-out}
+use Rattle.commits.proofs.Forms.{turn}
 use Rattle.commits.proofs.Sight.{Changed, PutChanged}
 use Rattle.machine.specs.Answers.{numberOf}
 use Rattle.machine.specs.Choice.{ifB}
@@ -61,7 +62,7 @@ EndOf TakeOut x = (x ≡ 2) ⊎ (x ≡ 15)
 pub data Quiet (v : View) (t : Tree) (j : Job) (f : Phase) : Turn → Type 0 where
   hurts : Quiet v t j f Hurt
   goes : (f′ : Phase) → goalOf f′ ≡ goalOf f → PhaseOk v t (j .number) f′ → Moves v (j .number) f f′ → Quiet v t j f (Next (busy j f′))
-  ends : (o : Operation) (a : Answer) → goalOf f ≡ Serve o → EndOf o (numberOf a) → Quiet v t j f (Done a)
+  stops : (o : Operation) (a : Answer) → goalOf f ≡ Serve o → EndOf o (numberOf a) → Quiet v t j f (Done a)
   settled : goalOf f ≡ Settle → walks f ≡ true → (lv (v (standing f) .rank) (v (next v (j .number) (standing f)) .rank) ≡ true → ⊥)
       → next v (j .number) (next v (j .number) (standing f)) ≡ 0 → Quiet v t j f (Done PutSettled)
   leaves : goalOf f ≡ Settle → Quiet v t j f (Done PutUnsettled)
@@ -70,12 +71,12 @@ pub data Quiet (v : View) (t : Tree) (j : Job) (f : Phase) : Turn → Type 0 whe
 abbrev pub turnOfPut : Job → Bool → Turn
 turnOfPut j b = ifB b (Next (busy j (Start Settle))) (Done PutSettled)
 
--- the step as a whole, on a tree that the view carries
-pub data Does (v : View) (t : Tree) (j : Job) (f : Phase) : Did → Type 0 where
-  rests : (a : Turn) → Quiet v t j f a → Does v t j f (calm a)
-  put-commits : (b : Bool) (ws : List Write) → goalOf f ≡ Serve PutIn → PutChanged v (j .number) (j .price) t (upds v ws) b
-      → Does v t j f (record { turn = turnOfPut j b; committed = true; writes = ws })
+-- the step as a whole, on a tree that the view carries; m put-ins are committed so far
+pub data Does (v : View) (t : Tree) (m : ℕ) (j : Job) (f : Phase) : Did → Type 0 where
+  rests : (a : Turn) → Quiet v t j f a → Does v t m j f (calm a)
+  put-commits : (b : Bool) (ws : List Write) → m < 1000000 → goalOf f ≡ Serve PutIn → PutChanged v (j .number) (j .price) t (upds v ws) b
+      → Does v t m j f (record { turn = turnOfPut j b; committed = true; writes = ws })
   take-commits : (ws : List Write) → goalOf f ≡ Serve TakeOut → Changed v (takes-out (j .number)) t (upds v ws)
-      → Does v t j f (record { turn = Done TakenOut; committed = false; writes = ws })
+      → Does v t m j f (record { turn = Done TakenOut; committed = false; writes = ws })
   settle-commits : (ws : List Write) → goalOf f ≡ Settle → Changed v settles t (upds v ws)
-      → Does v t j f (record { turn = Next (busy j (Start Settle)); committed = false; writes = ws })
+      → Does v t m j f (record { turn = Next (busy j (Start Settle)); committed = false; writes = ws })

@@ -1,0 +1,1 @@
+// Demand 2 as a theorem. No code.

@@ -1,0 +1,2 @@
+pub mod Fares
+pub mod Read
