@@ -6,3 +6,4 @@ pub mod Stands
 pub mod Calls
 pub mod Steps
 pub mod Demand2
+pub mod Wrong
