@@ -29,10 +29,10 @@ held-at : (v : View) (c : Ctx) (t : Tree) → Carries v (plug c t) → Holds v t
 held-at v c t i = take-apart v c t (i .entry) (i .holds) .1
 
 -- the commit, from its lists; the surgery, from what is shown of the place
-commit-by : {v : View} {old new : Tree} {N : List Fresh} {R : List ℕ} → AllOne N → Rise 0 N → AllFree v N → ((s : ℕ) → times s R ≤ occ s old)
+commit-by : {v : View} {old new : Tree} {N : List Fresh} {R : List ℕ} → AllOne N → Rise 0 N → AllFree v N → v (root new) .state ≡ 0 → ((s : ℕ) → times s R ≤ occ s old)
     → ((s : ℕ) → occ s new + times s R ≡ occ s old + times s (slots N)) → Holds (upds v (freshes N)) new → Commit v old new N R
-commit-by {v} {old} {new} {N} one up free sub count holds =
-    record { all-one = one; once = rise-once 0 N up; free = all-free v N free; from-old = sub; count = count; holds = holds }
+commit-by {v} {old} {new} {N} ones up free lead-free sub count holds =
+    record { all-one = ones; once = rise-once 0 N up; free = all-free v N free; from-old = sub; count = count; holds = holds; top-free = lead-free }
 
 surgery-by : (v : View) (c : Ctx) (old new : Tree) (N : List Fresh) (R : List ℕ) {x y : ℕ} (i : Carries v (plug c old)) (m : Commit v old new N R)
     → Local (wrote v c (root new) N R) (rankC c) x y old new → Surgery v (wrote v c (root new) N R) (plug c old) (plug c new) x y
@@ -60,7 +60,7 @@ module _ (v : View) (c : Ctx) (h kh ph rh a l m K RK kl pl rl km pm rm : ℕ) (i
   put-commit : Commit v (leaf h kh ph rh) two N₀ (h ∷ [])
   put-commit =
       let up : Rise 0 N₀ = (omega arith, (al, (lm, tt))) in
-      commit-by (refl, (refl, (refl, tt))) up (fa, (fl, (fm, tt))) (λ s. omega arith) (λ s. omega arith)
+      commit-by (refl, (refl, (refl, tt))) up (fa, (fl, (fm, tt))) fa (λ s. omega arith) (λ s. omega arith)
       (fresh-hit v N₀ a _ (rise-once 0 N₀ up a) (inl (refl, refl)), fresh-hit v N₀ l _ (rise-once 0 N₀ up l) (inr (inl (refl, refl))), fresh-hit v N₀ m _ (rise-once 0 N₀ up m) (inr (inr (inl (refl, refl)))))
 
   pub put-surgery : (lv RK rl ≡ true → ⊥) → (lv RK rm ≡ true → ⊥) → Surgery v (wrote v c a N₀ (h ∷ [])) (plug c (leaf h kh ph rh)) (plug c two) a h
@@ -107,7 +107,7 @@ module _ (v : View) (c : Ctx) (b : Bool) (z z′ key r : ℕ) (X S : Tree) (i : 
   promote-commit : Commit v small tall N₁ (z ∷ [])
   promote-commit =
       let h = holds-join v b z key r X S (held-at v c small i) in
-      commit-by (side-one b key (suc r) (root X) (root S), tt) (omega arith, tt) (free, tt) (λ s. omega (arith, occ-join b s z key r X S))
+      commit-by (side-one b key (suc r) (root X) (root S), tt) (omega arith, tt) (free, tt) (rw (root-join b z′ key (suc r) X S) free) (λ s. omega (arith, occ-join b s z key r X S))
       (λ s. omega (arith, occ-join b s z key r X S, occ-join b s z′ key (suc r) X S))
       (join-holds _ b z′ key (suc r) X S (fresh-hit v N₁ z′ _ (rise-once 0 N₁ (omega arith, tt) z′) (inl (refl, refl)))
       (low-part X (λ s. omega arith) (h .1)) (low-part S (λ s. omega arith) (h .2)))
@@ -148,7 +148,7 @@ module _ (v : View) (c : Ctx) (b : Bool) (z x x′ z′ kx kz rz rx rx′ rz′ 
       let h = holds-join v b z kz rz (join b x kx rx W Y) S (held-at v c leant i) in
       let g = holds-join v b x kx rx W Y (h .1) in
       let rise : Rise 0 N₂ = (omega arith, (up, tt)) in
-      commit-by (side-one b kx rx′ (root W) z′, (side-one b kz rz′ (root Y) (root S), tt)) rise (fx, (fz, tt)) (λ s. omega (arith, occ-lean b s z x kx kz rz rx W Y S))
+      commit-by (side-one b kx rx′ (root W) z′, (side-one b kz rz′ (root Y) (root S), tt)) rise (fx, (fz, tt)) (rw (root-join b x′ kx rx′ W (join b z′ kz rz′ Y S)) fx) (λ s. omega (arith, occ-lean b s z x kx kz rz rx W Y S))
       (λ s. omega (arith, occ-lean b s z x kx kz rz rx W Y S, occ-turn b s x′ z′ kx kz rx′ rz′ W Y S))
       (join-holds _ b x′ kx rx′ W (join b z′ kz rz′ Y S)
       (fresh-hit v N₂ x′ _ (rise-once 0 N₂ rise x′) (inl (refl, ap (sideRec b kx rx′ (root W)) (sym (root-join b z′ kz rz′ Y S)))))
@@ -248,7 +248,7 @@ module _ (v : View) (c : Ctx) (b : Bool) (z x y y′ x′ z′ kx ky kz rz rx ry
       let g = holds-join v b x kx rx W (join b y ky ry A B) (h .1) in
       let f = holds-join v b y ky ry A B (g .2) in
       let rise : Rise 0 N₃ = (omega arith, duo-rise b y′ X₃ Z₃ up) in
-      commit-by (side-one b ky (suc j) x′ z′, duo-one b X₃ Z₃ (side-one b kx j (root W) (root A)) (side-one b kz j (root B) (root S))) rise (fy, free₃) (λ s. omega (arith, occ-deep b s z x y kx ky kz rz rx ry W A B S))
+      commit-by (side-one b ky (suc j) x′ z′, duo-one b X₃ Z₃ (side-one b kx j (root W) (root A)) (side-one b kz j (root B) (root S))) rise (fy, free₃) (rw (root-join b y′ ky (suc j) (join b x′ kx j W A) (join b z′ kz j B S)) fy) (λ s. omega (arith, occ-deep b s z x y kx ky kz rz rx ry W A B S))
       (λ s. omega (arith, occ-deep b s z x y kx ky kz rz rx ry W A B S, occ-flat b s y′ x′ z′ kx ky kz (suc j) j j W A B S, duo-times b X₃ Z₃ s))
       (join-holds _ b y′ ky (suc j) (join b x′ kx j W A) (join b z′ kz j B S)
       (fresh-hit v N₃ y′ _ (rise-once 0 N₃ rise y′) (inl (refl, ap₂ (sideRec b ky (suc j)) (sym (root-join b x′ kx j W A)) (sym (root-join b z′ kz j B S)))))
@@ -297,7 +297,7 @@ module _ (v : View) (c : Ctx) (b : Bool) (p kp rp l kl pl rl s′ : ℕ) (S : Tr
   take-commit : Commit v four (renew s′ S) N₄ R₄
   take-commit =
       let h = holds-join v b p kp rp (leaf l kl pl rl) S (held-at v c four i) in
-      commit-by (root-one v S (h .2), tt) (omega arith, tt) (free, tt) (λ s. omega (arith, four-occ s, occ-root S s)) (λ s. omega (arith, four-occ s, occ-renew s′ S s))
+      commit-by (root-one v S (h .2), tt) (omega arith, tt) (free, tt) (rw (root-renew s′ S) free) (λ s. omega (arith, four-occ s, occ-root S s)) (λ s. omega (arith, four-occ s, occ-renew s′ S s))
       (renew-held v (upds v (freshes N₄)) s′ S (fresh-hit v N₄ s′ (v (root S)) (rise-once 0 N₄ (omega arith, tt) s′) (inl (refl, refl))) (h .2)
       (λ T le g. part-held v c four N₄ i (free, tt) T (λ s. omega (arith, four-occ s, le s)) g))
 
@@ -323,7 +323,7 @@ module _ (v : View) (c : Ctx) (s′ : ℕ) (S : Tree) (i : Carries v (plug c S))
   copy-commit : Commit v S (renew s′ S) N₅ (root S ∷ [])
   copy-commit =
       let h = held-at v c S i in
-      commit-by (root-one v S h, tt) (omega arith, tt) (free, tt) (λ s. omega (arith, occ-root S s)) (λ s. omega (arith, occ-renew s′ S s))
+      commit-by (root-one v S h, tt) (omega arith, tt) (free, tt) (rw (root-renew s′ S) free) (λ s. omega (arith, occ-root S s)) (λ s. omega (arith, occ-renew s′ S s))
       (renew-held v (upds v (freshes N₅)) s′ S (fresh-hit v N₅ s′ (v (root S)) (rise-once 0 N₅ (omega arith, tt) s′) (inl (refl, refl))) h
       (λ T le g. part-held v c S N₅ i (free, tt) T (λ s. omega (arith, le s)) g))
 

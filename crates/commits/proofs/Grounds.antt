@@ -25,7 +25,7 @@ use Rattle.trees.specs.Tree.{Ctx, Holds, HoldsC, Tree, hole, leaf, node, occC, 
 abbrev pub Steady : View → ℕ → ℕ → Type 0
 Steady v a b = (v a .state ≡ 0 → ⊥) × (v b .state ≡ 0 → ⊥) × (lv (v a .rank) (v b .rank) ≡ true → ⊥)
 
-pub steady-kept : (v w : View) → ((s : ℕ) → Fate (v s) (w s)) → (a b : ℕ) → Steady v a b → Steady w a b
+pub steady-kept : (v w : View) → ((s : ℕ) → Fate v (v s) (w s)) → (a b : ℕ) → Steady v a b → Steady w a b
 steady-kept v w f a b s =
     let p = stays-used (f a) (s .0) in
     let q = stays-used (f b) (s .1) in

@@ -67,7 +67,7 @@ pub record Local (w : View) (q x y : ℕ) (old new : Tree) : Type 0 where
   pub no-new : (b : ℕ) → (b ≡ x → ⊥) → levAt q b new ≤ levAt q b old
 
 module _ {v w : View} {x y : ℕ} {old new : Tree} (c : Ctx) (i : Carries v (plug c old)) (i′ : Carries w (plug c new)) where
-  pub surgery-at : ((s : ℕ) → Fate (v s) (w s)) → Local w (rankC c) x y old new → Surgery v w (plug c old) (plug c new) x y
+  pub surgery-at : ((s : ℕ) → Fate v (v s) (w s)) → Local w (rankC c) x y old new → Surgery v w (plug c old) (plug c new) x y
   surgery-at f l =
       let z : occC y c ≡ 0 = omega (arith, i .ones y, occ-plug y c old, ind-le (v y .state) 1, l .y-in) in
       record {

@@ -103,10 +103,6 @@ off-ones v (y ∷ R) d z s =
     let e = one-off v y (z y (omega (arith, ind-same y))) in
     omega (arith, e s, off-ones (upd v (off y)) R (λ x. omega (arith, d x)) (λ x h. omega (arith, e x, z x (omega arith), d x)) s)
 
-with-same : (b : Bool) (a : ℕ) (r : Rec) → (with-link b a r .state ≡ r .state) × (with-link b a r .rank ≡ r .rank)
-with-same true a r = (refl, refl)
-with-same false a r = (refl, refl)
-
 -- ---- a node by sides
 
 pub holds-join : (v : View) (b : Bool) (s k rk : ℕ) (t u : Tree) → Holds v (join b s k rk t u) → (v s ≡ sideRec b k rk (root t) (root u)) × Holds v t × Holds v u
@@ -167,6 +163,7 @@ pub record Commit (v : View) (old new : Tree) (N : List Fresh) (R : List ℕ) : 
   pub from-old : (s : ℕ) → times s R ≤ occ s old
   pub count : (s : ℕ) → occ s new + times s R ≡ occ s old + times s (slots N)
   pub holds : Holds (upds v (freshes N)) new
+  pub top-free : v (root new) .state ≡ 0
 
 -- the view after it; for given lists this is `upds v` of the writes one after the other
 abbrev pub wrote : View → Ctx → ℕ → List Fresh → List ℕ → View
@@ -243,14 +240,14 @@ module _ (v : View) (c : Ctx) (old new : Tree) (N : List Fresh) (R : List ℕ) (
   pub commit-off : (s : ℕ) → 1 ≤ times s R → Off (wrote v c (root new) N R) s
   commit-off s h = ap (λ r. r .state) (was-off s h)
 
-  pub commit-fate : (s : ℕ) → Fate (v s) (wrote v c (root new) N R s)
+  pub commit-fate : (s : ℕ) → Fate v (v s) (wrote v c (root new) N R s)
   commit-fate s =
       elim (pos-cases (times s (slots N))) [
         | inl p ↦ unused (m .free s p)
         | inr z ↦ (elim (pos-cases (times s R)) [
           | inl p ↦ taken (one s (old-one s p)) (was-off s p)
           | inr o ↦ (elim (same-or s (parent c)) [
-            | inl e ↦ subst (λ y. Fate (v y) (after y)) (sym e) parent-fate
+            | inl e ↦ subst (λ y. Fate v (v y) (after y)) (sym e) parent-fate
             | inr d ↦ alike (not-parent s d ∙ off-miss mid R s o ∙ fresh-miss v N s z)
           ])
         ])
@@ -259,10 +256,8 @@ module _ (v : View) (c : Ctx) (old new : Tree) (N : List Fresh) (R : List ℕ) (
       parent-one : v (parent c) .state ≡ 1
       parent-one = one (parent c) (omega (arith, base (parent c), occC-parent c, ind-le (v (parent c) .state) 1))
 
-      parent-fate : Fate (v (parent c)) (after (parent c))
-      parent-fate =
-          let s = with-same (pside c) (root new) (v (parent c)) in
-          relinked parent-one (ap (λ r. r .state) at-parent ∙ s .0 ∙ parent-one) (ap (λ r. r .rank) at-parent ∙ s .1)
+      parent-fate : Fate v (v (parent c)) (after (parent c))
+      parent-fate = relinked parent-one (pside c) (root new) (m .top-free) at-parent
 
   pub commit-ran : (s : ℕ) → 1 ≤ occ s new → wrote v c (root new) N R s .state ≡ 1
   commit-ran s h = in-tree after (plug c new) s commit-inv (omega (arith, occ-plug s c new, entry-in c s))

@@ -108,7 +108,7 @@ neighbour-comes = ten ++ (puts-in 0 20 ∷ replicate 5 (step 0) ++ (takes-out 0 
 
 -- a table that refuses all calls
 pub not-refusing : Demand-2 refusing → ⊥
-unfolding agrees  added removed ends putStepped takeStepped stepped abandonedBy entered stillOpen advance goes started history fibonacci fib atMost allowedRank emptyTable resetOf beginOf abandonedOut abandonOf sweep tidyReached tidyOf figuresReached figuresOf listReached listOf ifB reading commitIf leafOf innerRank putGrounds putTest putWrites putTurn putRoom putLimit putCommit readPutParent readPutLeaf putStep reachable reachFrom reach larger deeper inTree sentinel numberFits priceFits fareMarks innerMarks isLink isLeaf isInner plainForm entryForm wellFormed linked level isFare leads still other parentRow levelRow sided linkAt aroundOf rotateWrites doubleWrites readGrand readParent readOn groundsTwo groundsThree groundsFour testTwo testThree testFour promoteDo rotateDo rotateTwoDo doubleDo rotateBy doubleBy promoteBy commitTwo commitThree commitFour chooseFormed turnFormed chooseBy chooseStep rotateOn rotateTurn rotateFirst rotateStep doubleTurn doubleFirst doubleStep settleStep settling busyTasks countOpen sound jobFits askFits phaseStep carried stepWork stepOf place lengthFits view put puts freeFrom free slot1 slot2 slot3 countFree takeApart takeLeaf takeGrounds takeTest takeRoom takeCommit readTakeGrand readTakeParent readTakeLeft readTakeRight takeStep sought atLeaf serveArrival outranks settleArrival arrival walkTo walkFrom walkOn after
+unfolding agrees added removed ends putStepped takeStepped stepped abandonedBy entered stillOpen advance goes started history fibonacci fib atMost allowedRank emptyTable resetOf beginOf abandonedOut abandonOf sweep tidyReached tidyOf figuresReached figuresOf listReached listOf ifB reading commitIf leafOf innerRank putGrounds putTest putWrites putTurn putRoom putLimit putCommit readPutParent readPutLeaf putStep reachable reachFrom reach larger deeper inTree sentinel numberFits priceFits fareMarks innerMarks isLink isLeaf isInner plainForm entryForm wellFormed linked level isFare leads still other parentRow levelRow sided linkAt aroundOf rotateWrites doubleWrites readGrand readParent readOn groundsTwo groundsThree groundsFour testTwo testThree testFour promoteDo rotateDo rotateTwoDo doubleDo rotateBy doubleBy promoteBy commitTwo commitThree commitFour chooseFormed turnFormed chooseBy chooseStep rotateOn rotateTurn rotateFirst rotateStep doubleTurn doubleFirst doubleStep settleStep settling busyTasks countOpen sound jobFits askFits phaseStep carried stepWork stepOf place lengthFits view put puts freeFrom free slot1 slot2 slot3 countFree takeApart takeLeaf takeGrounds takeTest takeRoom takeCommit readTakeGrand readTakeParent readTakeLeft readTakeRight takeStep sought atLeaf serveArrival outranks settleArrival arrival walkTo walkFrom walkOn after
 not-refusing = fails refusing [] tt
 
 -- a first step that does the whole put-in

@@ -14,7 +14,7 @@ use Rattle.terms.specs.declared.Rec.{Rec}
 use Rattle.trees.proofs.Held.{Carries, zero-out}
 use Rattle.trees.proofs.Plug.{ind-eq}
 use Rattle.trees.specs.Tree.{Holds, Tree, leaf, leafRec, node, occ, root}
-use Rattle.views.specs.Update.{link, taken-off}
+use Rattle.views.specs.Update.{link, taken-off, with-link}
 
 -- ---- a view follows a route
 
@@ -65,31 +65,39 @@ walk-one v k (via s rk l) b w (inr h) = walk-one v k l b (w .4) h
 
 -- ---- what a commit does to one record
 
-pub data Fate (r r′ : Rec) : Type 0 where
-  unused : r .state ≡ 0 → Fate r r′
-  alike : r′ ≡ r → Fate r r′
-  taken : r .state ≡ 1 → r′ ≡ taken-off r → Fate r r′
-  relinked : r .state ≡ 1 → r′ .state ≡ 1 → r′ .rank ≡ r .rank → Fate r r′
+-- a link is only ever led to a slot that was free in v
+pub data Fate (v : View) (r r′ : Rec) : Type 0 where
+  unused : r .state ≡ 0 → Fate v r r′
+  alike : r′ ≡ r → Fate v r r′
+  taken : r .state ≡ 1 → r′ ≡ taken-off r → Fate v r r′
+  relinked : r .state ≡ 1 → (b : Bool) (a : ℕ) → v a .state ≡ 0 → r′ ≡ with-link b a r → Fate v r r′
 
-pub frozen : {r r′ : Rec} → Fate r r′ → r .state ≡ 2 → r′ ≡ r
+-- one link changed: state and rank stay
+pub with-same : (b : Bool) (a : ℕ) (r : Rec) → (with-link b a r .state ≡ r .state) × (with-link b a r .rank ≡ r .rank)
+with-same true a r = (refl, refl)
+with-same false a r = (refl, refl)
+
+pub frozen : {v : View} {r r′ : Rec} → Fate v r r′ → r .state ≡ 2 → r′ ≡ r
 frozen (unused z) e = absurd (omega (arith, z, e))
 frozen (alike q) e = q
 frozen (taken o q) e = absurd (omega (arith, o, e))
-frozen (relinked o q p) e = absurd (omega (arith, o, e))
+frozen (relinked o b a z q) e = absurd (omega (arith, o, e))
 
-pub stays-used : {r r′ : Rec} → Fate r r′ → (r .state ≡ 0 → ⊥) → (r′ .rank ≡ r .rank) × (r′ .state ≡ 0 → ⊥)
+pub stays-used : {v : View} {r r′ : Rec} → Fate v r r′ → (r .state ≡ 0 → ⊥) → (r′ .rank ≡ r .rank) × (r′ .state ≡ 0 → ⊥)
 stays-used (unused z) n = absurd (n z)
 stays-used (alike q) n = (ap (λ r. r .rank) q, λ z. n (sym (ap (λ r. r .state) q) ∙ z))
 stays-used (taken o q) n = (ap (λ r. r .rank) q, λ z. omega (arith, sym (ap (λ r. r .state) q) ∙ z))
-stays-used (relinked o q p) n = (p, λ z. omega (arith, q, z))
+stays-used {r = r} (relinked o b a f q) n =
+    let s = with-same b a r in
+    (ap (λ r. r .rank) q ∙ s .1, λ z. n (sym (ap (λ r. r .state) q ∙ s .0) ∙ z))
 
-pub one-or-off : {r r′ : Rec} → Fate r r′ → r .state ≡ 1 → (r′ .state ≡ 1) ⊎ (r′ ≡ taken-off r)
+pub one-or-off : {v : View} {r r′ : Rec} → Fate v r r′ → r .state ≡ 1 → (r′ .state ≡ 1) ⊎ (r′ ≡ taken-off r)
 one-or-off (unused z) e = absurd (omega (arith, z, e))
 one-or-off (alike q) e = inl (ap (λ r. r .state) q ∙ e)
 one-or-off (taken o q) e = inr q
-one-or-off (relinked o q p) e = inl q
+one-or-off {r = r} (relinked o b a f q) e = inl (ap (λ r. r .state) q ∙ with-same b a r .0 ∙ e)
 
-module _ (v w : View) (fate : (y : ℕ) → Fate (v y) (w y)) (k : ℕ) where
+module _ (v w : View) (fate : (y : ℕ) → Fate v (v y) (w y)) (k : ℕ) where
   -- a record that is taken off, or was, leads where it led
   next-same : (a : ℕ) → w a ≡ v a → next w k a ≡ next v k a
   unfolding next

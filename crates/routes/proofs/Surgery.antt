@@ -25,7 +25,7 @@ Off w y = w y .state ≡ 2
 pub record Surgery (v w : View) (t t′ : Tree) (x y : ℕ) : Type 0 where
   pub before : Carries v t
   pub after : Carries w t′
-  pub fate : (s : ℕ) → Fate (v s) (w s)
+  pub fate : (s : ℕ) → Fate v (v s) (w s)
   pub routes : (k : ℕ) → Swap (Off w) x y (route k t) (route k t′)
   pub inside : 1 ≤ occ y t
   pub lost : levAt 255 y t′ ≡ 0
