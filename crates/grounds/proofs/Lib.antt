@@ -1,0 +1,5 @@
+pub mod Says
+pub mod Falls
+pub mod Records
+pub mod States
+pub mod Calls
