@@ -3,3 +3,8 @@ pub mod Falls
 pub mod Records
 pub mod States
 pub mod Calls
+pub mod Rooms
+pub mod Four
+pub mod Walks
+pub mod Puts
+pub mod Takes

@@ -82,6 +82,13 @@ module _ {G : Type 0} where
         record { clear = λ e h. elim h [ inl g ↦ d .clear refl g | inr g ↦ k .clear e g ]; struck = λ e. inr (k .struck e) }
     denies-both false b d k = record { clear = λ e. absurd (false≢true e); struck = λ e. inl (d .struck refl) }
 
+-- the second test is looked at only where the first is clear
+pub denies-then : {G H : Type 0} (a b : Bool) → Denies a G → (¬ G → Denies b H) → Denies (a && b) (G ⊎ H)
+denies-then true b d k =
+    let c = k (d .clear refl) in
+    record { clear = λ e h. elim h [ inl g ↦ d .clear refl g | inr g ↦ c .clear e g ]; struck = λ e. inr (c .struck e) }
+denies-then false b d k = record { clear = λ e. absurd (false≢true e); struck = λ e. inl (d .struck refl) }
+
 pub says-eq : (a b : ℕ) → Says (eqb a b) (a ≡ b)
 says-eq a b = record { holds = eqb-true a b; fails = eqb-false a b }
 

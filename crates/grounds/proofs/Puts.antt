@@ -1,0 +1,123 @@
+-- A step of a put-in after its walk: 17, 16 and 15 exactly on their grounds.
+use Prim.Native.Nat.{ℕ, _≤_, _<_}
+use mathlib.Core.Path.{_≡_, refl}
+use mathlib.Core.Bool.{Bool, true, false, not, _&&_}
+use mathlib.Core.List.{List, [], _∷_}
+use mathlib.Core.Logic.{_⊎_, inl, inr, _↔_, _≢_}
+use lib.Dec.{leb, eqb}
+use Rattle.terms.specs.declared.Rec.{Rec}
+use Rattle.terms.specs.declared.Links.{Links}
+use Rattle.terms.specs.declared.Path.{Path}
+use Rattle.terms.specs.declared.Job.{Job}
+use Rattle.terms.specs.declared.Phase.the-variants.{PuttingIn}
+use Rattle.terms.specs.declared.PutStage.{PutStage}
+use Rattle.terms.specs.declared.PutStage.the-variants.{PutParent, PutLeaf, PutCommit}
+use Rattle.machine.specs.Choice.{ifB}
+use Rattle.machine.specs.Record.{wellFormed, linked, isLeaf, leads, still}
+use Rattle.machine.specs.Table.{View, view, slot3}
+use Rattle.machine.specs.PutIn.{putGrounds, putTest, putTurn, putRoom, putLimit, putCommit, readPutParent, readPutLeaf, putStep}
+use Rattle.grounds.specs.Record.{NoLinks, LeadTo, AsNoted, Unreadable, ChildUnreadable}
+use Rattle.grounds.specs.Room.{Room}
+use Rattle.grounds.specs.Step.{PutTest, PutBefore, one-and-the-same, parent-doesnt-lead-on, not-on-a-leaf-of-another-number, PhaseDamaged, record-unreadable, arrival-outranks, before-the-test, after-the-test, AtLimit, WithoutRoom, TooFewSlots}
+use Rattle.grounds.proofs.Says.{Says, says-not, says-both, Denies, denies, denies-not, denies-both, says-eq, says-le}
+use Rattle.grounds.proofs.Falls.{Falls, serves, strikes, passes, if-falls, look}
+use Rattle.grounds.proofs.Records.{says-leaf, says-still, says-leads, denies-unreadable, denies-child}
+use Rattle.grounds.proofs.Rooms.{says-no-room-3}
+use Rattle.grounds.proofs.Four.{plainAnswers, numberTurn, numberDid, Fours, fours-as, only-hurts, falls-as, read-hurts, commit-falls}
+
+module _ (n : ℕ) (t : List ℕ) (j : Job) (q : Path) where
+  abbrev Before : Links → Type 0
+  Before a =
+      Unreadable (view n t) n (q .parent) ⊎ (ChildUnreadable (view n t) n (q .here) ⊎ ((q .parent ≡ q .here)
+      ⊎ ((¬ (LeadTo a (q .here))) ⊎ (¬ (NoLinks (view n t (q .here)) × (view n t (q .here) .number ≢ j .number))))))
+
+  denies-before : (a : Links) → Denies (putGrounds n j q a (view n t (q .parent)) (view n t (q .here))) (Before a)
+  unfolding putGrounds
+  denies-before a =
+      denies-both _ _ (denies-unreadable n t (q .parent))
+      (denies-both _ _ (denies-child n t (q .here))
+      (denies-both _ _ (denies _ (says-eq (q .parent) (q .here)))
+      (denies-both _ _ (denies-not _ (says-leads a (q .here)))
+      (denies-not _ (says-both _ _ (says-leaf (view n t (q .here))) (says-not _ (says-eq (view n t (q .here) .number) (j .number))))))))
+
+  says-test : (a b : Links) → Says (putTest a b (view n t (q .parent)) (view n t (q .here))) (PutTest (view n t) q a b)
+  unfolding putTest
+  says-test a b = says-both _ _ (says-still (view n t (q .parent)) a) (says-still (view n t (q .here)) b)
+
+  -- "Limit and room are looked at only after this test."
+  change-falls : (m : ℕ) (e : Bool) → Fours (numberDid (putLimit (view n t) n m j q e (view n t (q .parent)) (view n t (q .here)))) ⊥ (1000000 ≤ m) (¬ (Room (view n t) n 3)) ⊥
+  unfolding putLimit putRoom putTurn
+  change-falls m e =
+      passes (λ x. x)
+      (look numberDid _ _ (says-le 1000000 m) refl
+      (λ h. look numberDid _ _ (says-no-room-3 (view n t) n) refl
+      (λ i.
+      passes (λ x. x)
+      (if-falls (λ z. Falls plainAnswers (numberTurn z) []) _ (λ x. serves (inl refl)) (λ x. serves (inr (inr (inr (inl refl)))))))))
+
+  commit-fours : (m : ℕ) (a b : Links) → Fours (numberDid (putCommit (view n t) n m j q a b))
+      (PhaseDamaged (view n t) n j (PuttingIn q (PutCommit a b)))
+      (AtLimit (view n t) m (PuttingIn q (PutCommit a b)))
+      (WithoutRoom (view n t) n (PuttingIn q (PutCommit a b)))
+      (TooFewSlots (view n t) n (PuttingIn q (PutCommit a b)))
+  unfolding putCommit
+  commit-fours m a b =
+      fours-as
+      (λ h.
+      elim h [
+        | inr x ↦ absurd (x .1)
+        | inl x ↦
+            elim x [
+              | inl y ↦ record-unreadable (inl y)
+              | inr x ↦
+                  elim x [
+                    | inl y ↦ record-unreadable (inr y)
+                    | inr x ↦
+                        elim x [
+                          | inl y ↦ before-the-test (one-and-the-same (inl (inl y)))
+                          | inr x ↦
+                              elim x [
+                                | inl y ↦ before-the-test (parent-doesnt-lead-on y)
+                                | inr y ↦ before-the-test (not-on-a-leaf-of-another-number y)
+                              ]
+                        ]
+                  ]
+            ]
+      ],
+      λ h.
+      elim h [
+        | record-unreadable x ↦ elim x [ inl y ↦ inl (inl y) | inr y ↦ inl (inr (inl y)) ]
+        | arrival-outranks x ↦ absurd x
+        | before-the-test x ↦
+            elim x [
+              | one-and-the-same y ↦
+                  elim y [
+                    | inl z ↦ elim z [ inl e ↦ inl (inr (inr (inl e))) | inr e ↦ absurd e ]
+                    | inr z ↦ elim z [ inl e ↦ absurd e | inr e ↦ absurd e ]
+                  ]
+              | parent-doesnt-lead-on y ↦ inl (inr (inr (inr (inl y))))
+              | not-on-a-leaf-of-another-number y ↦ inl (inr (inr (inr (inr y))))
+            ]
+        | after-the-test x ↦ absurd x
+      ])
+      (λ h. h, λ h. h) (λ h. h, λ h. h) (λ h. h .1, λ h. absurd h)
+      (commit-falls _ _ _ _ (denies-before a) (says-test a b) (λ x y. change-falls m _))
+
+  -- A STEP OF A PUT-IN after its walk
+  pub put-fours : (m : ℕ) (f : PutStage) → Fours (numberDid (putStep (view n t) n m j q f))
+      (PhaseDamaged (view n t) n j (PuttingIn q f))
+      (AtLimit (view n t) m (PuttingIn q f))
+      (WithoutRoom (view n t) n (PuttingIn q f))
+      (TooFewSlots (view n t) n (PuttingIn q f))
+  unfolding putStep readPutParent readPutLeaf
+  put-fours m PutParent =
+      only-hurts (λ x. x) (λ x. x) (λ x. x)
+      (falls-as record-unreadable
+      (λ h. elim h [ record-unreadable x ↦ x | arrival-outranks x ↦ absurd x | before-the-test x ↦ absurd x | after-the-test x ↦ absurd x ])
+      (read-hurts _ _ _ _ (denies-unreadable n t (q .parent))))
+  put-fours m (PutLeaf a) =
+      only-hurts (λ x. x) (λ x. x) (λ x. x)
+      (falls-as record-unreadable
+      (λ h. elim h [ record-unreadable x ↦ x | arrival-outranks x ↦ absurd x | before-the-test x ↦ absurd x | after-the-test x ↦ absurd x ])
+      (read-hurts _ _ _ _ (denies-child n t (q .here))))
+  put-fours m (PutCommit a b) = commit-fours m a b
