@@ -8,3 +8,7 @@ pub mod Four
 pub mod Walks
 pub mod Puts
 pub mod Takes
+pub mod Rows
+pub mod Settles
+pub mod Stages
+pub mod Steps

@@ -62,44 +62,45 @@ module _ (n : ℕ) (t : List ℕ) (j : Job) (q : Path) where
       (TooFewSlots (view n t) n (PuttingIn q (PutCommit a b)))
   unfolding putCommit
   commit-fours m a b =
-      fours-as
-      (λ h.
-      elim h [
-        | inr x ↦ absurd (x .1)
-        | inl x ↦
-            elim x [
-              | inl y ↦ record-unreadable (inl y)
-              | inr x ↦
+      fours-as (
+        λ h.
+            elim h [
+              | inr x ↦ absurd (x .1)
+              | inl x ↦
                   elim x [
-                    | inl y ↦ record-unreadable (inr y)
+                    | inl y ↦ record-unreadable (inl y)
                     | inr x ↦
                         elim x [
-                          | inl y ↦ before-the-test (one-and-the-same (inl (inl y)))
+                          | inl y ↦ record-unreadable (inr y)
                           | inr x ↦
                               elim x [
-                                | inl y ↦ before-the-test (parent-doesnt-lead-on y)
-                                | inr y ↦ before-the-test (not-on-a-leaf-of-another-number y)
+                                | inl y ↦ before-the-test (one-and-the-same (inl (inl y)))
+                                | inr x ↦
+                                    elim x [
+                                      | inl y ↦ before-the-test (parent-doesnt-lead-on y)
+                                      | inr y ↦ before-the-test (not-on-a-leaf-of-another-number y)
+                                    ]
                               ]
                         ]
                   ]
-            ]
-      ],
-      λ h.
-      elim h [
-        | record-unreadable x ↦ elim x [ inl y ↦ inl (inl y) | inr y ↦ inl (inr (inl y)) ]
-        | arrival-outranks x ↦ absurd x
-        | before-the-test x ↦
-            elim x [
-              | one-and-the-same y ↦
-                  elim y [
-                    | inl z ↦ elim z [ inl e ↦ inl (inr (inr (inl e))) | inr e ↦ absurd e ]
-                    | inr z ↦ elim z [ inl e ↦ absurd e | inr e ↦ absurd e ]
+            ],
+        λ h.
+            elim h [
+              | record-unreadable x ↦ elim x [ inl y ↦ inl (inl y) | inr y ↦ inl (inr (inl y)) ]
+              | arrival-outranks x ↦ absurd x
+              | before-the-test x ↦
+                  elim x [
+                    | one-and-the-same y ↦
+                        elim y [
+                          | inl z ↦ elim z [ inl e ↦ inl (inr (inr (inl e))) | inr e ↦ absurd e ]
+                          | inr z ↦ elim z [ inl e ↦ absurd e | inr e ↦ absurd e ]
+                        ]
+                    | parent-doesnt-lead-on y ↦ inl (inr (inr (inr (inl y))))
+                    | not-on-a-leaf-of-another-number y ↦ inl (inr (inr (inr (inr y))))
                   ]
-              | parent-doesnt-lead-on y ↦ inl (inr (inr (inr (inl y))))
-              | not-on-a-leaf-of-another-number y ↦ inl (inr (inr (inr (inr y))))
-            ]
-        | after-the-test x ↦ absurd x
-      ])
+              | after-the-test x ↦ absurd x
+            ],
+      )
       (λ h. h, λ h. h) (λ h. h, λ h. h) (λ h. h .1, λ h. absurd h)
       (commit-falls _ _ _ _ (denies-before a) (says-test a b) (λ x y. change-falls m _))
 

@@ -40,11 +40,11 @@ module _ (v : View) where
             upto = let k = r .upto in omega arith;
             free-there = λ h. r .free-there (omega arith);
             none-before =
-              λ x a b q.
-              elim (here-or-later s x a) [
-                | inl p ↦ says-eq (v s .state) 0 .fails e (rw p at q)
-                | inr p ↦ r .none-before x p b q
-              ];
+                λ x a b q.
+                elim (here-or-later s x a) [
+                  | inl p ↦ says-eq (v s .state) 0 .fails e (rw p at q)
+                  | inr p ↦ r .none-before x p b q
+                ];
           }
 
   module _ (n : ℕ) where
