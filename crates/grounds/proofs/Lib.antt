@@ -12,3 +12,7 @@ pub mod Rows
 pub mod Settles
 pub mod Stages
 pub mod Steps
+pub mod Lists
+pub mod Spans
+pub mod Reaches
+pub mod Whole

@@ -19,7 +19,8 @@ use Rattle.machine.specs.Table.{View, view, slot1}
 use Rattle.machine.specs.TakeOut.{takeApart, takeLeaf, takeGrounds, takeTest, takeRoom, takeCommit, readTakeGrand, readTakeParent, readTakeLeft, readTakeRight, takeStep}
 use Rattle.grounds.specs.Record.{NoLinks, LeadTo, AsNoted, Unreadable, ChildUnreadable}
 use Rattle.grounds.specs.Room.{Room}
-use Rattle.grounds.specs.Step.{Twice, TakeTest, TakeBefore, one-and-the-same, grandparent-doesnt-lead-on, parent-doesnt-lead-on, not-on-a-leaf-of-its-own-number, PhaseDamaged, record-unreadable, arrival-outranks, before-the-test, after-the-test, AtLimit, WithoutRoom, TooFewSlots}
+use Rattle.grounds.specs.Order.{Twice}
+use Rattle.grounds.specs.Step.{TakeTest, TakeBefore, one-and-the-same, grandparent-doesnt-lead-on, parent-doesnt-lead-on, not-on-a-leaf-of-its-own-number, PhaseDamaged, record-unreadable, arrival-outranks, before-the-test, after-the-test, AtLimit, WithoutRoom, TooFewSlots}
 use Rattle.grounds.proofs.Says.{Says, says-not, says-as, says-both, Denies, denies, denies-not, denies-as, denies-both, denies-then, says-eq, says-le}
 use Rattle.grounds.proofs.Falls.{Falls, serves, strikes, passes, if-falls, look}
 use Rattle.grounds.proofs.Records.{says-leaf, says-still, says-leads, denies-unreadable, denies-child}

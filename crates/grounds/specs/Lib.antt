@@ -5,3 +5,5 @@ pub mod Calls
 pub mod Room
 pub mod Settle
 pub mod Step
+pub mod Ways
+pub mod Whole

@@ -28,6 +28,11 @@ abbrev pub Among : List ℕ → ℕ → Type 0
 Among [] a = ⊥
 Among (k ∷ ks) a = (a ≡ k) ⊎ Among ks a
 
+-- "one and the same": a number that stands twice in a list
+abbrev pub Twice : List ℕ → Type 0
+Twice [] = ⊥
+Twice (x ∷ xs) = Among xs x ⊎ Twice xs
+
 -- the numbers of a list of refusals
 abbrev pub numbers : List Refusal → List ℕ
 numbers [] = []

@@ -21,7 +21,7 @@ use Rattle.terms.specs.declared.SettleStage.{SettleStage}
 use Rattle.terms.specs.declared.SettleStage.the-variants.{SettleGrand, SettleParent, SettleChoose, SettleRotate, SettleDouble}
 use Rattle.machine.specs.Table.{View, view, slots}
 use Rattle.machine.specs.State.{taskAt}
-use Rattle.grounds.specs.Order.{Refusal, Among}
+use Rattle.grounds.specs.Order.{Refusal, Twice}
 use Rattle.grounds.specs.Record.{NoLinks, Level, LeadTo, AsNoted, Unreadable, ChildUnreadable}
 use Rattle.grounds.specs.State.{JobOutOfRange, TableLength, TaskNumberAbove7, TaskIdle, CountsDamaged}
 use Rattle.grounds.specs.Calls.{refuse}
@@ -114,13 +114,8 @@ ArrivalOutranks v j (PuttingIn q f) = ⊥
 ArrivalOutranks v j (TakingOut q f) = ⊥
 ArrivalOutranks v j (Settling q f) = ⊥
 
--- 17, "Commit only, before its test: two of the records read are one and the same"
-abbrev pub Twice : List ℕ → Type 0
-Twice [] = ⊥
-Twice (x ∷ xs) = Among xs x ⊎ Twice xs
-
--- ".. the noted links of a remembered record that was read don't lead to the next one, a put-in doesn't stand on a leaf of another
--- number": a are the parent's noted links
+-- 17, "Commit only, before its test: two of the records read are one and the same, the noted links of a remembered record that was
+-- read don't lead to the next one, a put-in doesn't stand on a leaf of another number": a are the parent's noted links
 pub data PutBefore (v : View) (j : Job) (q : Path) (a : Links) : Type 0 where
   one-and-the-same : Twice (q .parent ∷ q .here ∷ []) → PutBefore v j q a
   parent-doesnt-lead-on : ¬ (LeadTo a (q .here)) → PutBefore v j q a
