@@ -18,7 +18,8 @@ use Rattle.machine.specs.Table.{View, view, slot3}
 use Rattle.machine.specs.PutIn.{putGrounds, putTest, putTurn, putRoom, putLimit, putCommit, readPutParent, readPutLeaf, putStep}
 use Rattle.grounds.specs.Record.{NoLinks, LeadTo, AsNoted, Unreadable, ChildUnreadable}
 use Rattle.grounds.specs.Room.{Room}
-use Rattle.grounds.specs.Step.{PutTest, PutBefore, one-and-the-same, parent-doesnt-lead-on, not-on-a-leaf-of-another-number, PhaseDamaged, record-unreadable, arrival-outranks, before-the-test, after-the-test, AtLimit, WithoutRoom, TooFewSlots}
+use Rattle.grounds.specs.Commits.{of-a-put-in, at-the-commit-of-a-put-in, PutTest, PutBefore, one-and-the-same, parent-doesnt-lead-on, not-on-a-leaf-of-another-number, AtLimit, WithoutRoom, TooFewSlots}
+use Rattle.grounds.specs.Step.{PhaseDamaged, record-unreadable, arrival-outranks, before-the-test, after-the-test}
 use Rattle.grounds.proofs.Says.{Says, says-not, says-both, Denies, denies, denies-not, denies-both, says-eq, says-le}
 use Rattle.grounds.proofs.Falls.{Falls, serves, strikes, passes, if-falls, look}
 use Rattle.grounds.proofs.Records.{says-leaf, says-still, says-leads, denies-unreadable, denies-child}
@@ -55,53 +56,36 @@ module _ (n : ℕ) (t : List ℕ) (j : Job) (q : Path) where
       passes (λ x. x)
       (if-falls (λ z. Falls plainAnswers (numberTurn z) []) _ (λ x. serves (inl refl)) (λ x. serves (inr (inr (inr (inl refl)))))))))
 
-  commit-fours : (m : ℕ) (a b : Links) → Fours (numberDid (putCommit (view n t) n m j q a b))
-      (PhaseDamaged (view n t) n j (PuttingIn q (PutCommit a b)))
-      (AtLimit (view n t) m (PuttingIn q (PutCommit a b)))
-      (WithoutRoom (view n t) n (PuttingIn q (PutCommit a b)))
+  to-damaged : (a b : Links) → Before a → PhaseDamaged (view n t) n j (PuttingIn q (PutCommit a b))
+  to-damaged a b (inl x) = record-unreadable (inl x)
+  to-damaged a b (inr (inl x)) = record-unreadable (inr x)
+  to-damaged a b (inr (inr (inl x))) = before-the-test (of-a-put-in (one-and-the-same (inl (inl x))))
+  to-damaged a b (inr (inr (inr (inl x)))) = before-the-test (of-a-put-in (parent-doesnt-lead-on x))
+  to-damaged a b (inr (inr (inr (inr x)))) = before-the-test (of-a-put-in (not-on-a-leaf-of-another-number x))
+
+  from-damaged : (a b : Links) → PhaseDamaged (view n t) n j (PuttingIn q (PutCommit a b)) → Before a
+  from-damaged a b (record-unreadable (inl x)) = inl x
+  from-damaged a b (record-unreadable (inr x)) = inr (inl x)
+  from-damaged a b (arrival-outranks x) = elim x [ ]
+  from-damaged a b (before-the-test (of-a-put-in (one-and-the-same (inl (inl x))))) = inr (inr (inl x))
+  from-damaged a b (before-the-test (of-a-put-in (one-and-the-same (inl (inr x))))) = absurd x
+  from-damaged a b (before-the-test (of-a-put-in (one-and-the-same (inr (inl x))))) = absurd x
+  from-damaged a b (before-the-test (of-a-put-in (one-and-the-same (inr (inr x))))) = absurd x
+  from-damaged a b (before-the-test (of-a-put-in (parent-doesnt-lead-on x))) = inr (inr (inr (inl x)))
+  from-damaged a b (before-the-test (of-a-put-in (not-on-a-leaf-of-another-number x))) = inr (inr (inr (inr x)))
+  from-damaged a b (after-the-test x) = elim x [ ]
+
+  commit-fours :
+      (m : ℕ) (a b : Links)
+      → Fours (numberDid (putCommit (view n t) n m j q a b)) (PhaseDamaged (view n t) n j (PuttingIn q (PutCommit a b)))
+      (AtLimit (view n t) m (PuttingIn q (PutCommit a b))) (WithoutRoom (view n t) n (PuttingIn q (PutCommit a b)))
       (TooFewSlots (view n t) n (PuttingIn q (PutCommit a b)))
   unfolding putCommit
   commit-fours m a b =
-      fours-as (
-        λ h.
-            elim h [
-              | inr x ↦ absurd (x .1)
-              | inl x ↦
-                  elim x [
-                    | inl y ↦ record-unreadable (inl y)
-                    | inr x ↦
-                        elim x [
-                          | inl y ↦ record-unreadable (inr y)
-                          | inr x ↦
-                              elim x [
-                                | inl y ↦ before-the-test (one-and-the-same (inl (inl y)))
-                                | inr x ↦
-                                    elim x [
-                                      | inl y ↦ before-the-test (parent-doesnt-lead-on y)
-                                      | inr y ↦ before-the-test (not-on-a-leaf-of-another-number y)
-                                    ]
-                              ]
-                        ]
-                  ]
-            ],
-        λ h.
-            elim h [
-              | record-unreadable x ↦ elim x [ inl y ↦ inl (inl y) | inr y ↦ inl (inr (inl y)) ]
-              | arrival-outranks x ↦ absurd x
-              | before-the-test x ↦
-                  elim x [
-                    | one-and-the-same y ↦
-                        elim y [
-                          | inl z ↦ elim z [ inl e ↦ inl (inr (inr (inl e))) | inr e ↦ absurd e ]
-                          | inr z ↦ elim z [ inl e ↦ absurd e | inr e ↦ absurd e ]
-                        ]
-                    | parent-doesnt-lead-on y ↦ inl (inr (inr (inr (inl y))))
-                    | not-on-a-leaf-of-another-number y ↦ inl (inr (inr (inr (inr y))))
-                  ]
-              | after-the-test x ↦ absurd x
-            ],
-      )
-      (λ h. h, λ h. h) (λ h. h, λ h. h) (λ h. h .1, λ h. absurd h)
+      fours-as (λ h. elim h [ inl x ↦ to-damaged a b x | inr x ↦ absurd (x .1) ], λ h. inl (from-damaged a b h))
+      (λ h. at-the-commit-of-a-put-in (h .0) (h .1), λ h. elim h [ at-the-commit-of-a-put-in x y ↦ (x, y) ])
+      (λ h. at-the-commit-of-a-put-in (h .0) (h .1), λ h. elim h [ at-the-commit-of-a-put-in x y ↦ (x, y) ])
+      (λ h. absurd (h .1), λ h. elim h [ ])
       (commit-falls _ _ _ _ (denies-before a) (says-test a b) (λ x y. change-falls m _))
 
   -- A STEP OF A PUT-IN after its walk
@@ -112,13 +96,13 @@ module _ (n : ℕ) (t : List ℕ) (j : Job) (q : Path) where
       (TooFewSlots (view n t) n (PuttingIn q f))
   unfolding putStep readPutParent readPutLeaf
   put-fours m PutParent =
-      only-hurts (λ x. x) (λ x. x) (λ x. x)
+      only-hurts (λ x. elim x [ ]) (λ x. elim x [ ]) (λ x. elim x [ ])
       (falls-as record-unreadable
-      (λ h. elim h [ record-unreadable x ↦ x | arrival-outranks x ↦ absurd x | before-the-test x ↦ absurd x | after-the-test x ↦ absurd x ])
+      (λ h. elim h [ record-unreadable x ↦ x | arrival-outranks x ↦ elim x [ ] | before-the-test x ↦ elim x [ ] | after-the-test x ↦ elim x [ ] ])
       (read-hurts _ _ _ _ (denies-unreadable n t (q .parent))))
   put-fours m (PutLeaf a) =
-      only-hurts (λ x. x) (λ x. x) (λ x. x)
+      only-hurts (λ x. elim x [ ]) (λ x. elim x [ ]) (λ x. elim x [ ])
       (falls-as record-unreadable
-      (λ h. elim h [ record-unreadable x ↦ x | arrival-outranks x ↦ absurd x | before-the-test x ↦ absurd x | after-the-test x ↦ absurd x ])
+      (λ h. elim h [ record-unreadable x ↦ x | arrival-outranks x ↦ elim x [ ] | before-the-test x ↦ elim x [ ] | after-the-test x ↦ elim x [ ] ])
       (read-hurts _ _ _ _ (denies-child n t (q .here))))
   put-fours m (PutCommit a b) = commit-fours m a b

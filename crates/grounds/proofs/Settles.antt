@@ -26,7 +26,7 @@ use Rattle.grounds.specs.Record.{WellFormed, Level, LeadTo, AsNoted, Unr
 use Rattle.grounds.specs.Room.{Room}
 use Rattle.grounds.specs.Settle.{Other, x-is-left, x-is-not-left, Named, s-is-right, s-is-left, LetS, LetSYW, Close, Wide, Double, Row, promote, RowDamaged, s-outranks-z, a-new-rank-would-pass-28, PromoteDamaged, s-outranks-z-alone, promote-would-pass-28, rotate-case-2}
 use Rattle.grounds.specs.Order.{Twice}
-use Rattle.grounds.specs.Step.{SettleBefore, one-and-the-same, pz-doesnt-lead-on, z-doesnt-lead-on, not-level-with-its-parent, TestTwo, TestThree, TestFour}
+use Rattle.grounds.specs.Commits.{SettleBefore, one-and-the-same, pz-doesnt-lead-on, z-doesnt-lead-on, not-level-with-its-parent, TestTwo, TestThree, TestFour}
 use Rattle.grounds.proofs.Says.{Says, says-not, says-as, says-both, Denies, denies, denies-not, denies-as, denies-both, says-eq, says-le}
 use Rattle.grounds.proofs.Falls.{Falls, serves, strikes, passes, if-falls, look}
 use Rattle.grounds.proofs.Records.{says-formed, says-level, says-still, says-leads, denies-unreadable, denies-child}

@@ -27,7 +27,9 @@ use Rattle.grounds.specs.Order.{Among}
 use Rattle.grounds.specs.Record.{Level, Unreadable, ChildUnreadable}
 use Rattle.grounds.specs.Room.{Room}
 use Rattle.grounds.specs.Settle.{LetS, LetSYW, Close, Wide, Double, RowDamaged, PromoteDamaged}
-use Rattle.grounds.specs.Step.{SettleBefore, not-level-with-its-parent, z-to-choose, x-to-choose, s-to-choose, y-to-rotate, w-to-rotate, pz-to-commit, y-to-commit, ChooseUnreadable, RotateUnreadable, DoubleUnreadable, DoubleNow, TestTwo, TestThree, TestFour, RowDamagedNow, NoSlotsNow, PhaseDamaged, record-unreadable, arrival-outranks, before-the-test, after-the-test, AtLimit, WithoutRoom, TooFewSlots}
+use Rattle.grounds.specs.Reads.{z-to-choose, x-to-choose, s-to-choose, y-to-rotate, w-to-rotate, pz-to-commit, y-to-commit, ChooseUnreadable, RotateUnreadable, DoubleUnreadable, DoubleNow}
+use Rattle.grounds.specs.Commits.{with-pz-and-z-read, with-x-read, with-y-read, SettleBefore, not-level-with-its-parent, TestTwo, TestThree, TestFour, RowDamagedNow, NoSlotsNow, AtLimit, WithoutRoom, TooFewSlots}
+use Rattle.grounds.specs.Step.{PhaseDamaged, record-unreadable, arrival-outranks, before-the-test, after-the-test}
 use Rattle.grounds.proofs.Says.{Says, Denies, says-struck}
 use Rattle.grounds.proofs.Falls.{Falls, serves, strikes, passes, if-falls}
 use Rattle.grounds.proofs.Records.{denies-unreadable, denies-child}
@@ -124,9 +126,9 @@ module _ (n : ℕ) (t : List ℕ) (j : Job) (q : Path) where
     choose-to (inl (inr (inr x))) = unread-s (s-to-choose x)
     choose-to (inr (inl (w, inl x))) = unread-s (pz-to-commit w x)
     choose-to (inr (inl (w, inr x))) =
-        before-the-test
-        (at-s b (q .here) (λ s. (¬ (Wide zr (rankAt s))) × SettleBefore (view n t) q a b (q .grand ∷ q .parent ∷ [])) .1 (w, x))
-    choose-to (inr (inr x)) = after-the-test (at-s b (q .here) (λ s. TestTwo (view n t) q a b × PromoteDamaged zr (rankAt s)) .1 x)
+        before-the-test (with-pz-and-z-read
+        (at-s b (q .here) (λ s. (¬ (Wide zr (rankAt s))) × SettleBefore (view n t) q a b (q .grand ∷ q .parent ∷ [])) .1 (w, x)))
+    choose-to (inr (inr x)) = after-the-test (with-pz-and-z-read (at-s b (q .here) (λ s. TestTwo (view n t) q a b × PromoteDamaged zr (rankAt s)) .1 x))
 
     choose-unread : ChooseUnreadable (view n t) n q so → Chosen so ⊎ ChooseRest
     choose-unread (z-to-choose x) = inl (inl x)
@@ -136,11 +138,11 @@ module _ (n : ℕ) (t : List ℕ) (j : Job) (q : Path) where
 
     choose-from : ChooseDamaged → Chosen so ⊎ ChooseRest
     choose-from (record-unreadable x) = choose-unread (at-s b (q .here) (λ s. ChooseUnreadable (view n t) n q s) .0 x)
-    choose-from (arrival-outranks x) = absurd x
-    choose-from (before-the-test x) =
+    choose-from (arrival-outranks x) = elim x [ ]
+    choose-from (before-the-test (with-pz-and-z-read x)) =
         let y = at-s b (q .here) (λ s. (¬ (Wide zr (rankAt s))) × SettleBefore (view n t) q a b (q .grand ∷ q .parent ∷ [])) .0 x in
         inr (inl (y .0, inr (y .1)))
-    choose-from (after-the-test x) = inr (inr (at-s b (q .here) (λ s. TestTwo (view n t) q a b × PromoteDamaged zr (rankAt s)) .0 x))
+    choose-from (after-the-test (with-pz-and-z-read x)) = inr (inr (at-s b (q .here) (λ s. TestTwo (view n t) q a b × PromoteDamaged zr (rankAt s)) .0 x))
 
     choose-fours :
         (m : ℕ)
@@ -149,9 +151,12 @@ module _ (n : ℕ) (t : List ℕ) (j : Job) (q : Path) where
         (TooFewSlots (view n t) n (Settling q (SettleChoose a b)))
     unfolding chooseStep
     choose-fours m =
-        fours-as (choose-to, choose-from) (λ g. g, λ g. g) (λ g. g, λ g. g) (
-          at-s b (q .here) (λ s. TestTwo (view n t) q a b × Close zr (rankAt s) × (¬ (Room (view n t) n 1))) .1,
-          at-s b (q .here) (λ s. TestTwo (view n t) q a b × Close zr (rankAt s) × (¬ (Room (view n t) n 1))) .0,
+        fours-as (choose-to, choose-from) (λ g. absurd g, λ g. elim g [ ]) (λ g. absurd g, λ g. elim g [ ]) (
+          λ g. with-pz-and-z-read (at-s b (q .here) (λ s. TestTwo (view n t) q a b × Close zr (rankAt s) × (¬ (Room (view n t) n 1))) .1 g),
+          λ g.
+              elim g [
+                | with-pz-and-z-read x ↦ at-s b (q .here) (λ s. TestTwo (view n t) q a b × Close zr (rankAt s) × (¬ (Room (view n t) n 1))) .0 x
+              ],
         )
         (either-falls numberDid (not (chooseFormed n q b (view n t (q .parent)) (view n t (q .here)) (view n t so)))
         (says-struck _ (denies-choose n t q b)) refl (λ g. chosen (parentRow zr (rankAt so)) (parent-is zr (rankAt so))))
@@ -249,8 +254,8 @@ module _ (n : ℕ) (t : List ℕ) (j : Job) (q : Path) where
       rotate-to (inr (inl (w, inl x))) = unread-three (y-to-rotate w x)
       rotate-to (inr (inl (w, inr x))) = unread-three (w-to-rotate w x)
       rotate-to (inr (inr (inl (d, inl x)))) = unread-three (pz-to-commit d x)
-      rotate-to (inr (inr (inl (d, inr x)))) = before-the-test (at-syw q a b c BeforeThree .1 (d, x))
-      rotate-to (inr (inr (inr x))) = after-the-test (at-syw q a b c AfterThree .1 x)
+      rotate-to (inr (inr (inl (d, inr x)))) = before-the-test (with-x-read (at-syw q a b c BeforeThree .1 (d, x)))
+      rotate-to (inr (inr (inr x))) = after-the-test (with-x-read (at-syw q a b c AfterThree .1 x))
 
       rotate-unread : RotateUnreadable (view n t) n q so ys ws → Chosen so ⊎ RotateRest
       rotate-unread (z-to-choose x) = inl (inl x)
@@ -262,9 +267,9 @@ module _ (n : ℕ) (t : List ℕ) (j : Job) (q : Path) where
 
       rotate-from : RotateDamaged → Chosen so ⊎ RotateRest
       rotate-from (record-unreadable x) = rotate-unread (at-syw q a b c (λ s y w. RotateUnreadable (view n t) n q s y w) .0 x)
-      rotate-from (arrival-outranks x) = absurd x
-      rotate-from (before-the-test x) = let y = at-syw q a b c BeforeThree .0 x in inr (inr (inl (y .0, inr (y .1))))
-      rotate-from (after-the-test x) = inr (inr (inr (at-syw q a b c AfterThree .0 x)))
+      rotate-from (arrival-outranks x) = elim x [ ]
+      rotate-from (before-the-test (with-x-read x)) = let y = at-syw q a b c BeforeThree .0 x in inr (inr (inl (y .0, inr (y .1))))
+      rotate-from (after-the-test (with-x-read x)) = inr (inr (inr (at-syw q a b c AfterThree .0 x)))
 
       abbrev FewThree : ℕ → ℕ → ℕ → Type 0
       FewThree s y w = (¬ (DoubleNow (view n t) q s y w)) × TestThree (view n t) q a b c × NoSlotsNow (view n t) n q s y w
@@ -276,7 +281,8 @@ module _ (n : ℕ) (t : List ℕ) (j : Job) (q : Path) where
           (TooFewSlots (view n t) n (Settling q (SettleRotate a b c)))
       unfolding rotateStep
       rotate-fours m =
-          fours-as (rotate-to, rotate-from) (λ g. g, λ g. g) (λ g. g, λ g. g) (at-syw q a b c FewThree .1, at-syw q a b c FewThree .0)
+          fours-as (rotate-to, rotate-from) (λ g. absurd g, λ g. elim g [ ]) (λ g. absurd g, λ g. elim g [ ])
+          (λ g. with-x-read (at-syw q a b c FewThree .1 g), λ g. elim g [ with-x-read x ↦ at-syw q a b c FewThree .0 x ])
           (either-falls numberDid (not (chooseFormed n q b (view n t (q .parent)) (view n t (q .here)) (view n t so)))
           (says-struck _ (denies-choose n t q b)) refl (λ g. rotated (parentRow zr (rankAt so)) (parent-is zr (rankAt so)) g))
 
@@ -353,8 +359,8 @@ module _ (n : ℕ) (t : List ℕ) (j : Job) (q : Path) where
         double-to (inr (inl (w, x))) = unread-four (w-to-rotate w x)
         double-to (inr (inr (inl (inl x)))) = unread-four (pz-to-commit x)
         double-to (inr (inr (inl (inr (inl x))))) = unread-four (y-to-commit x)
-        double-to (inr (inr (inl (inr (inr x))))) = before-the-test (at-syw q a b c BeforeFour .1 x)
-        double-to (inr (inr (inr x))) = after-the-test (at-syw q a b c AfterFour .1 x)
+        double-to (inr (inr (inl (inr (inr x))))) = before-the-test (with-y-read (at-syw q a b c BeforeFour .1 x))
+        double-to (inr (inr (inr x))) = after-the-test (with-y-read (at-syw q a b c AfterFour .1 x))
 
         double-unread : DoubleUnreadable (view n t) n q so ys ws → Chosen so ⊎ DoubleRest
         double-unread (z-to-choose x) = inl (inl x)
@@ -366,9 +372,9 @@ module _ (n : ℕ) (t : List ℕ) (j : Job) (q : Path) where
 
         double-from : DoubleDamaged → Chosen so ⊎ DoubleRest
         double-from (record-unreadable x) = double-unread (at-syw q a b c (λ s y w. DoubleUnreadable (view n t) n q s y w) .0 x)
-        double-from (arrival-outranks x) = absurd x
-        double-from (before-the-test x) = inr (inr (inl (inr (inr (at-syw q a b c BeforeFour .0 x)))))
-        double-from (after-the-test x) = inr (inr (inr (at-syw q a b c AfterFour .0 x)))
+        double-from (arrival-outranks x) = elim x [ ]
+        double-from (before-the-test (with-y-read x)) = inr (inr (inl (inr (inr (at-syw q a b c BeforeFour .0 x)))))
+        double-from (after-the-test (with-y-read x)) = inr (inr (inr (at-syw q a b c AfterFour .0 x)))
 
         double-fours :
             (m : ℕ)
@@ -377,7 +383,8 @@ module _ (n : ℕ) (t : List ℕ) (j : Job) (q : Path) where
             (TooFewSlots (view n t) n (Settling q (SettleDouble a b c d)))
         unfolding doubleStep
         double-fours m =
-            fours-as (double-to, double-from) (λ g. g, λ g. g) (λ g. g, λ g. g) (at-syw q a b c FewFour .1, at-syw q a b c FewFour .0)
+            fours-as (double-to, double-from) (λ g. absurd g, λ g. elim g [ ]) (λ g. absurd g, λ g. elim g [ ])
+            (λ g. with-y-read (at-syw q a b c FewFour .1 g), λ g. elim g [ with-y-read x ↦ at-syw q a b c FewFour .0 x ])
             (either-falls numberDid (not (chooseFormed n q b (view n t (q .parent)) (view n t (q .here)) (view n t so)))
             (says-struck _ (denies-choose n t q b)) refl (λ g. doubled (parentRow zr (rankAt so)) (parent-is zr (rankAt so)) g))
 
@@ -386,7 +393,7 @@ module _ (n : ℕ) (t : List ℕ) (j : Job) (q : Path) where
       → ¬ (TooFewSlots (view n t) n (Settling q f)) → Hurts a G
       → Fours a (PhaseDamaged (view n t) n j (Settling q f)) (AtLimit (view n t) m (Settling q f)) (WithoutRoom (view n t) n (Settling q f))
       (TooFewSlots (view n t) n (Settling q f))
-  read-alone m f g h r = only-hurts (λ x. x) (λ x. x) h (falls-as f g r)
+  read-alone m f g h r = only-hurts (λ x. elim x [ ]) (λ x. elim x [ ]) h (falls-as f g r)
 
   -- A SETTLING STEP after its walk
   pub settle-fours :
@@ -396,12 +403,12 @@ module _ (n : ℕ) (t : List ℕ) (j : Job) (q : Path) where
   unfolding settleStep readGrand readParent
   settle-fours m SettleGrand =
       read-alone {f = SettleGrand} m record-unreadable
-      (λ h. elim h [ record-unreadable x ↦ x | arrival-outranks x ↦ absurd x | before-the-test x ↦ absurd x | after-the-test x ↦ absurd x ])
-      (λ x. x) (read-hurts _ _ _ _ (denies-unreadable n t (q .grand)))
+      (λ h. elim h [ record-unreadable x ↦ x | arrival-outranks x ↦ elim x [ ] | before-the-test x ↦ elim x [ ] | after-the-test x ↦ elim x [ ] ])
+      (λ x. elim x [ ]) (read-hurts _ _ _ _ (denies-unreadable n t (q .grand)))
   settle-fours m (SettleParent a) =
       read-alone {f = SettleParent a} m record-unreadable
-      (λ h. elim h [ record-unreadable x ↦ x | arrival-outranks x ↦ absurd x | before-the-test x ↦ absurd x | after-the-test x ↦ absurd x ])
-      (λ x. x) (read-hurts _ _ _ _ (denies-unreadable n t (q .parent)))
+      (λ h. elim h [ record-unreadable x ↦ x | arrival-outranks x ↦ elim x [ ] | before-the-test x ↦ elim x [ ] | after-the-test x ↦ elim x [ ] ])
+      (λ x. elim x [ ]) (read-hurts _ _ _ _ (denies-unreadable n t (q .parent)))
   settle-fours m (SettleChoose a b) = choose-fours a b m
   settle-fours m (SettleRotate a b c) = rotate-fours a b c m
   settle-fours m (SettleDouble a b c d) = double-fours a b c d m

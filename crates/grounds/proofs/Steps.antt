@@ -21,7 +21,8 @@ use Rattle.grounds.specs.Order.{Refusal, Ruled}
 use Rattle.grounds.specs.Record.{FareNumber}
 use Rattle.grounds.specs.State.{JobOutOfRange, CountsDamaged, TaskIdle}
 use Rattle.grounds.specs.Calls.{refuse}
-use Rattle.grounds.specs.Step.{PhaseDamaged, AtLimit, WithoutRoom, TooFewSlots, StepDamaged, counts, number-or-price-out-of-range, of-its-phase, Of, stepRefusals}
+use Rattle.grounds.specs.Commits.{AtLimit, WithoutRoom, TooFewSlots}
+use Rattle.grounds.specs.Step.{PhaseDamaged, StepDamaged, counts, number-or-price-out-of-range, of-its-phase, Of, stepRefusals}
 use Rattle.grounds.proofs.Says.{Says, Denies, denies-both, says-struck, says-lt}
 use Rattle.grounds.proofs.Falls.{Falls, serves, strikes, passes, ruled, look}
 use Rattle.grounds.proofs.Records.{says-number}
@@ -47,8 +48,8 @@ phase-fours :
     → Fours (numberDid (phaseStep (view n t) n m j f)) (PhaseDamaged (view n t) n j f) (AtLimit (view n t) m f) (WithoutRoom (view n t) n f)
     (TooFewSlots (view n t) n f)
 unfolding phaseStep
-phase-fours n t m j (Start g) h = only-hurts (λ x. x) (λ x. x) (λ x. x) (start-hurts n t j g (in-range j h))
-phase-fours n t m j (Walk g q) h = only-hurts (λ x. x) (λ x. x) (λ x. x) (walk-hurts n t j g q)
+phase-fours n t m j (Start g) h = only-hurts (λ x. elim x [ ]) (λ x. elim x [ ]) (λ x. elim x [ ]) (start-hurts n t j g (in-range j h))
+phase-fours n t m j (Walk g q) h = only-hurts (λ x. elim x [ ]) (λ x. elim x [ ]) (λ x. elim x [ ]) (walk-hurts n t j g q)
 phase-fours n t m j (PuttingIn q f) h = put-fours n t j q m f
 phase-fours n t m j (TakingOut q f) h = take-fours n t j q m f
 phase-fours n t m j (Settling q f) h = settle-fours n t j q m f

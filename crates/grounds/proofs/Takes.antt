@@ -20,7 +20,8 @@ use Rattle.machine.specs.TakeOut.{takeApart, takeLeaf, takeGrounds, takeTest, t
 use Rattle.grounds.specs.Record.{NoLinks, LeadTo, AsNoted, Unreadable, ChildUnreadable}
 use Rattle.grounds.specs.Room.{Room}
 use Rattle.grounds.specs.Order.{Twice}
-use Rattle.grounds.specs.Step.{TakeTest, TakeBefore, one-and-the-same, grandparent-doesnt-lead-on, parent-doesnt-lead-on, not-on-a-leaf-of-its-own-number, PhaseDamaged, record-unreadable, arrival-outranks, before-the-test, after-the-test, AtLimit, WithoutRoom, TooFewSlots}
+use Rattle.grounds.specs.Commits.{of-a-take-out, at-the-commit-of-a-take-out, TakeTest, TakeBefore, one-and-the-same, grandparent-doesnt-lead-on, parent-doesnt-lead-on, not-on-a-leaf-of-its-own-number, AtLimit, WithoutRoom, TooFewSlots}
+use Rattle.grounds.specs.Step.{PhaseDamaged, record-unreadable, arrival-outranks, before-the-test, after-the-test}
 use Rattle.grounds.proofs.Says.{Says, says-not, says-as, says-both, Denies, denies, denies-not, denies-as, denies-both, denies-then, says-eq, says-le}
 use Rattle.grounds.proofs.Falls.{Falls, serves, strikes, passes, if-falls, look}
 use Rattle.grounds.proofs.Records.{says-leaf, says-still, says-leads, denies-unreadable, denies-child}
@@ -128,27 +129,27 @@ module _ (n : ℕ) (t : List ℕ) (j : Job) (q : Path) where
   to-damaged a b c d (inr (inl x)) = record-unreadable (inr (inl x))
   to-damaged a b c d (inr (inr (inl x))) = record-unreadable (inr (inr (inl x)))
   to-damaged a b c d (inr (inr (inr (inl x)))) = record-unreadable (inr (inr (inr x)))
-  to-damaged a b c d (inr (inr (inr (inr (inl x))))) = before-the-test (one-and-the-same x)
-  to-damaged a b c d (inr (inr (inr (inr (inr (inl x)))))) = before-the-test (grandparent-doesnt-lead-on x)
-  to-damaged a b c d (inr (inr (inr (inr (inr (inr (inl x))))))) = before-the-test (parent-doesnt-lead-on x)
-  to-damaged a b c d (inr (inr (inr (inr (inr (inr (inr x))))))) = before-the-test (not-on-a-leaf-of-its-own-number x)
+  to-damaged a b c d (inr (inr (inr (inr (inl x))))) = before-the-test (of-a-take-out (one-and-the-same x))
+  to-damaged a b c d (inr (inr (inr (inr (inr (inl x)))))) = before-the-test (of-a-take-out (grandparent-doesnt-lead-on x))
+  to-damaged a b c d (inr (inr (inr (inr (inr (inr (inl x))))))) = before-the-test (of-a-take-out (parent-doesnt-lead-on x))
+  to-damaged a b c d (inr (inr (inr (inr (inr (inr (inr x))))))) = before-the-test (of-a-take-out (not-on-a-leaf-of-its-own-number x))
 
   from-damaged : (a b c d : Links) → PhaseDamaged (view n t) n j (TakingOut q (TakeCommit a b c d)) → Before a b
   from-damaged a b c d (record-unreadable (inl x)) = inl x
   from-damaged a b c d (record-unreadable (inr (inl x))) = inr (inl x)
   from-damaged a b c d (record-unreadable (inr (inr (inl x)))) = inr (inr (inl x))
   from-damaged a b c d (record-unreadable (inr (inr (inr x)))) = inr (inr (inr (inl x)))
-  from-damaged a b c d (arrival-outranks x) = absurd x
-  from-damaged a b c d (before-the-test (one-and-the-same x)) = inr (inr (inr (inr (inl x))))
-  from-damaged a b c d (before-the-test (grandparent-doesnt-lead-on x)) = inr (inr (inr (inr (inr (inl x)))))
-  from-damaged a b c d (before-the-test (parent-doesnt-lead-on x)) = inr (inr (inr (inr (inr (inr (inl x))))))
-  from-damaged a b c d (before-the-test (not-on-a-leaf-of-its-own-number x)) = inr (inr (inr (inr (inr (inr (inr x))))))
-  from-damaged a b c d (after-the-test x) = absurd x
+  from-damaged a b c d (arrival-outranks x) = elim x [ ]
+  from-damaged a b c d (before-the-test (of-a-take-out (one-and-the-same x))) = inr (inr (inr (inr (inl x))))
+  from-damaged a b c d (before-the-test (of-a-take-out (grandparent-doesnt-lead-on x))) = inr (inr (inr (inr (inr (inl x)))))
+  from-damaged a b c d (before-the-test (of-a-take-out (parent-doesnt-lead-on x))) = inr (inr (inr (inr (inr (inr (inl x))))))
+  from-damaged a b c d (before-the-test (of-a-take-out (not-on-a-leaf-of-its-own-number x))) = inr (inr (inr (inr (inr (inr (inr x))))))
+  from-damaged a b c d (after-the-test x) = elim x [ ]
 
   reads : {a : ℕ} {G : Type 0} {f : TakeStage} → (G → PhaseDamaged (view n t) n j (TakingOut q f)) → (PhaseDamaged (view n t) n j (TakingOut q f) → G)
       → ¬ (WithoutRoom (view n t) n (TakingOut q f)) → Hurts a G
       → (m : ℕ) → Fours a (PhaseDamaged (view n t) n j (TakingOut q f)) (AtLimit (view n t) m (TakingOut q f)) (WithoutRoom (view n t) n (TakingOut q f)) (TooFewSlots (view n t) n (TakingOut q f))
-  reads f g h r m = only-hurts (λ x. x) h (λ x. x) (falls-as f g r)
+  reads f g h r m = only-hurts (λ x. elim x [ ]) h (λ x. elim x [ ]) (falls-as f g r)
 
   -- A STEP OF A TAKE-OUT after its walk
   pub take-fours : (m : ℕ) (f : TakeStage) → Fours (numberDid (takeStep (view n t) n j q f))
@@ -159,22 +160,24 @@ module _ (n : ℕ) (t : List ℕ) (j : Job) (q : Path) where
   unfolding takeStep readTakeGrand readTakeParent readTakeLeft readTakeRight takeCommit
   take-fours m TakeGrand =
       reads {f = TakeGrand} record-unreadable
-      (λ h. elim h [ record-unreadable x ↦ x | arrival-outranks x ↦ absurd x | before-the-test x ↦ absurd x | after-the-test x ↦ absurd x ])
-      (λ x. x) (read-hurts _ _ _ _ (denies-unreadable n t (q .grand))) m
+      (λ h. elim h [ record-unreadable x ↦ x | arrival-outranks x ↦ elim x [ ] | before-the-test x ↦ elim x [ ] | after-the-test x ↦ elim x [ ] ])
+      (λ x. elim x [ ]) (read-hurts _ _ _ _ (denies-unreadable n t (q .grand))) m
   take-fours m (TakeParent a) =
       reads {f = TakeParent a} record-unreadable
-      (λ h. elim h [ record-unreadable x ↦ x | arrival-outranks x ↦ absurd x | before-the-test x ↦ absurd x | after-the-test x ↦ absurd x ])
-      (λ x. x) (read-hurts _ _ _ _ (denies-unreadable n t (q .parent))) m
+      (λ h. elim h [ record-unreadable x ↦ x | arrival-outranks x ↦ elim x [ ] | before-the-test x ↦ elim x [ ] | after-the-test x ↦ elim x [ ] ])
+      (λ x. elim x [ ]) (read-hurts _ _ _ _ (denies-unreadable n t (q .parent))) m
   take-fours m (TakeLeft a b) =
       reads {f = TakeLeft a b} record-unreadable
-      (λ h. elim h [ record-unreadable x ↦ x | arrival-outranks x ↦ absurd x | before-the-test x ↦ absurd x | after-the-test x ↦ absurd x ])
-      (λ x. x) (read-hurts _ _ _ _ (denies-child n t (b .left))) m
+      (λ h. elim h [ record-unreadable x ↦ x | arrival-outranks x ↦ elim x [ ] | before-the-test x ↦ elim x [ ] | after-the-test x ↦ elim x [ ] ])
+      (λ x. elim x [ ]) (read-hurts _ _ _ _ (denies-child n t (b .left))) m
   take-fours m (TakeRight a b c) =
       reads {f = TakeRight a b c} record-unreadable
-      (λ h. elim h [ record-unreadable x ↦ x | arrival-outranks x ↦ absurd x | before-the-test x ↦ absurd x | after-the-test x ↦ absurd x ])
-      (λ x. x) (read-hurts _ _ _ _ (denies-child n t (b .right))) m
+      (λ h. elim h [ record-unreadable x ↦ x | arrival-outranks x ↦ elim x [ ] | before-the-test x ↦ elim x [ ] | after-the-test x ↦ elim x [ ] ])
+      (λ x. elim x [ ]) (read-hurts _ _ _ _ (denies-child n t (b .right))) m
   take-fours m (TakeCommit a b c d) =
       fours-as
       (λ h. elim h [ inl x ↦ to-damaged a b c d x | inr x ↦ absurd (x .1) ], λ h. inl (from-damaged a b c d h))
-      (λ h. h .1, λ h. absurd h) (λ h. h, λ h. h) (λ h. h .1, λ h. absurd h)
+      (λ h. absurd (h .1), λ h. elim h [ ])
+      (λ h. at-the-commit-of-a-take-out (h .0) (h .1), λ h. elim h [ at-the-commit-of-a-take-out x y ↦ (x, y) ])
+      (λ h. absurd (h .1), λ h. elim h [ ])
       (commit-falls _ _ _ _ (denies-before a b) (says-test a b c d) (λ x y. change-falls _ _ _))

@@ -22,7 +22,8 @@ use Rattle.machine.specs.Record.{wellFormed, linked, level, isLeaf}
 use Rattle.machine.specs.Table.{View, view}
 use Rattle.machine.specs.Walk.{sought, atLeaf, serveArrival, outranks, settleArrival, arrival, walkTo, walkFrom, walkOn}
 use Rattle.grounds.specs.Record.{FareNumber, WellFormed, Unreadable, not-well-formed, ChildUnreadable, missing, there-but}
-use Rattle.grounds.specs.Step.{SoughtLink, goes-left, otherwise-right, StartUnreadable, the-entry, its-left, WalkUnreadable, the-record-left, the-record-arrived-at, ArrivalOutranks, PhaseDamaged, record-unreadable, arrival-outranks, before-the-test, after-the-test}
+use Rattle.grounds.specs.Reads.{SoughtLink, goes-left, otherwise-right, StartUnreadable, the-entry, its-left, WalkUnreadable, the-record-left, the-record-arrived-at, ArrivalOutranks, from-the-entry, on-the-walk}
+use Rattle.grounds.specs.Step.{PhaseDamaged, record-unreadable, arrival-outranks, before-the-test, after-the-test}
 use Rattle.grounds.proofs.Says.{Says, false-if, Denies, says-struck, says-eq, says-lt}
 use Rattle.grounds.proofs.Falls.{Falls, serves, strikes, passes, if-falls}
 use Rattle.grounds.proofs.Records.{says-formed, denies-unreadable, denies-child}
@@ -97,12 +98,15 @@ module _ (j : Job) where
         go false e = absurd (h (not-well-formed (says-formed _ n 0 .fails e)))
 
 over-start : (v : View) (j : Job) (g : Goal) → (Over g (v 0) (v (v 0 .left))) ↔ ArrivalOutranks v j (Start g)
-over-start v j (Serve o) = (λ x. x, λ x. x)
-over-start v j Settle = (λ x. x, λ x. x)
+over-start v j (Serve o) = (λ x. absurd x, λ x. elim x [ ])
+over-start v j Settle = (λ x. from-the-entry x, λ x. elim x [ from-the-entry h ↦ h ])
 
 over-walk : (v : View) (j : Job) (g : Goal) (q : Path) → (Over g (v (q .here)) (v (sought (j .number) (v (q .here))))) ↔ ArrivalOutranks v j (Walk g q)
-over-walk v j (Serve o) q = (λ x. x, λ x. x)
-over-walk v j Settle q = (λ x. (sought (j .number) (v (q .here)), is-sought (j .number) (v (q .here)), x), λ h. rw (sought-once (j .number) (v (q .here)) (h .0) (h .1)) at (h .2))
+over-walk v j (Serve o) q = (λ x. absurd x, λ x. elim x [ ])
+over-walk v j Settle q = (
+  λ x. on-the-walk (sought (j .number) (v (q .here))) (is-sought (j .number) (v (q .here))) x,
+  λ x. elim x [ on-the-walk s l h ↦ rw (sought-once (j .number) (v (q .here)) s l) at h ],
+)
 
 module _ (n : ℕ) (t : List ℕ) (j : Job) (g : Goal) where
   -- "first the entry's left"
@@ -118,8 +122,8 @@ module _ (n : ℕ) (t : List ℕ) (j : Job) (g : Goal) where
       elim h [
         | record-unreadable x ↦ elim x [ the-entry y ↦ inl y | its-left y ↦ inr (inl y) ]
         | arrival-outranks x ↦ inr (inr (over-start (view n t) j g .1 x))
-        | before-the-test x ↦ absurd x
-        | after-the-test x ↦ absurd x
+        | before-the-test x ↦ elim x [ ]
+        | after-the-test x ↦ elim x [ ]
       ])
       (from-hurts j n t g noGrand 0 _ (entry-left j n t g k))
 
@@ -149,7 +153,7 @@ module _ (n : ℕ) (t : List ℕ) (j : Job) (g : Goal) where
               | the-record-arrived-at s l u ↦ inr (inr (inl (rw (sought-once (j .number) (view n t (q .here)) s l) at u)))
             ]
         | arrival-outranks x ↦ inr (inr (inr (over-walk (view n t) j g q .1 x)))
-        | before-the-test x ↦ absurd x
-        | after-the-test x ↦ absurd x
+        | before-the-test x ↦ elim x [ ]
+        | after-the-test x ↦ elim x [ ]
       ])
       (either-falls numberTurn (eqb (q .here) 0) (says-eq (q .here) 0) refl (λ h. from-hurts j n t g (q .parent) (q .here) _ (λ i. refl)))

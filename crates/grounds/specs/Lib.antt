@@ -4,6 +4,8 @@ pub mod State
 pub mod Calls
 pub mod Room
 pub mod Settle
+pub mod Reads
+pub mod Commits
 pub mod Step
 pub mod Ways
 pub mod Whole
