@@ -27,7 +27,7 @@ abbrev pub apart : List Refusal → List ℕ → Bool
 apart [] served = true
 apart (r ∷ rs) served = without (r .number) (numbers rs ++ served) && apart rs served
 
-not-among : (k : ℕ) (is : List ℕ) → without k is ≡ true → ¬ (Among is k)
+pub not-among : (k : ℕ) (is : List ℕ) → without k is ≡ true → ¬ (Among is k)
 not-among k [] e h = h
 not-among k (i ∷ is) e (inl q) = eqb-false k i (not-true _ (both-first (not (eqb k i)) _ e)) q
 not-among k (i ∷ is) e (inr h) = not-among k is (both-second (not (eqb k i)) _ e) h

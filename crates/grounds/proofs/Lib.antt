@@ -16,3 +16,4 @@ pub mod Lists
 pub mod Spans
 pub mod Reaches
 pub mod Whole
+pub mod Each

@@ -9,8 +9,8 @@ use Rattle.terms.specs.declared.Phase.{Phase}
 use Rattle.machine.specs.Table.{View, view, slots}
 use Rattle.machine.specs.State.{taskAt}
 use Rattle.grounds.specs.Order.{Refusal}
-use Rattle.grounds.specs.State.{JobOutOfRange, TableLength, TaskNumberAbove7, TaskIdle, CountsDamaged}
-use Rattle.grounds.specs.Calls.{refuse}
+use Rattle.grounds.specs.State.{JobOutOfRange, CountsDamaged}
+use Rattle.grounds.specs.Calls.{refuse, length18, task10, idle13}
 use Rattle.grounds.specs.Reads.{RecordUnreadable, ArrivalOutranks}
 use Rattle.grounds.specs.Commits.{BeforeTest, AfterTest, AtLimit, WithoutRoom, TooFewSlots}
 
@@ -31,11 +31,23 @@ pub data StepDamaged (t : List ℕ) (st : State) (j : Job) (f : Phase) : Type 0 
 abbrev pub Of : State → ℕ → (Job → Phase → Type 0) → Type 0
 Of st i G = (j : Job) × (f : Phase) × (taskAt st i .work ≡ Busy j f) × G j f
 
+-- 17 "damaged"
+abbrev pub step17 : List ℕ → State → ℕ → Refusal
+step17 t st i = refuse 17 (Of st i (λ j f. StepDamaged t st j f))
+
+-- 16 "1,000,000 put-ins already committed"
+abbrev pub limit16 : List ℕ → State → ℕ → Refusal
+limit16 t st i = refuse 16 (Of st i (λ j f. AtLimit (view (slots t) t) (st .m) f))
+
+-- 15 "no room, at the commit of a put-in or take-out"
+abbrev pub room15 : List ℕ → State → ℕ → Refusal
+room15 t st i = refuse 15 (Of st i (λ j f. WithoutRoom (view (slots t) t) (slots t) f))
+
+-- 6 "put in, unsettled"
+abbrev pub unsettled6 : List ℕ → State → ℕ → Refusal
+unsettled6 t st i = refuse 6 (Of st i (λ j f. TooFewSlots (view (slots t) t) (slots t) f))
+
 -- THE REFUSALS OF A STEP in the printed order; last the answer 6
 abbrev pub stepRefusals : List ℕ → State → ℕ → List Refusal
 stepRefusals t st i =
-    refuse 18 (TableLength t) ∷ refuse 10 (TaskNumberAbove7 i) ∷ refuse 13 (TaskIdle st i)
-    ∷ refuse 17 (Of st i (λ j f. StepDamaged t st j f))
-    ∷ refuse 16 (Of st i (λ j f. AtLimit (view (slots t) t) (st .m) f))
-    ∷ refuse 15 (Of st i (λ j f. WithoutRoom (view (slots t) t) (slots t) f))
-    ∷ refuse 6 (Of st i (λ j f. TooFewSlots (view (slots t) t) (slots t) f)) ∷ []
+    length18 t ∷ task10 i ∷ idle13 st i ∷ step17 t st i ∷ limit16 t st i ∷ room15 t st i ∷ unsettled6 t st i ∷ []

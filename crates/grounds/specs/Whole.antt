@@ -4,8 +4,8 @@ use mathlib.Core.List.{List, [], _∷_}
 use Rattle.terms.specs.declared.State.{State}
 use Rattle.machine.specs.Table.{View, view, slots}
 use Rattle.grounds.specs.Order.{Refusal}
-use Rattle.grounds.specs.State.{TableLength, SomeTaskBusy, CountsDamaged}
-use Rattle.grounds.specs.Calls.{refuse}
+use Rattle.grounds.specs.State.{SomeTaskBusy, CountsDamaged}
+use Rattle.grounds.specs.Calls.{refuse, length18}
 use Rattle.grounds.specs.Ways.{ReachDamaged, RoomLentShort}
 
 -- 17 of tidy, figures and list
@@ -13,15 +13,23 @@ pub data WholeDamaged (t : List ℕ) (st : State) : Type 0 where
   counts : CountsDamaged st → WholeDamaged t st
   of-what-the-entry-reaches : ReachDamaged (view (slots t) t) (slots t) → WholeDamaged t st
 
--- 18, 14 "tidy: some task busy", 17
+-- 14 "tidy: some task busy"
+abbrev pub some14 : State → Refusal
+some14 st = refuse 14 (SomeTaskBusy st)
+
+-- 17 "damaged"
+abbrev pub whole17 : List ℕ → State → Refusal
+whole17 t st = refuse 17 (WholeDamaged t st)
+
+-- 15 "no room, .. in the room lent for a list"
+abbrev pub lent15 : List ℕ → List ℕ → Refusal
+lent15 t room = refuse 15 (RoomLentShort (view (slots t) t) room)
+
 abbrev pub tidyRefusals : List ℕ → State → List Refusal
-tidyRefusals t st = refuse 18 (TableLength t) ∷ refuse 14 (SomeTaskBusy st) ∷ refuse 17 (WholeDamaged t st) ∷ []
+tidyRefusals t st = length18 t ∷ some14 st ∷ whole17 t st ∷ []
 
--- 18, 17
 abbrev pub figuresRefusals : List ℕ → State → List Refusal
-figuresRefusals t st = refuse 18 (TableLength t) ∷ refuse 17 (WholeDamaged t st) ∷ []
+figuresRefusals t st = length18 t ∷ whole17 t st ∷ []
 
--- 18, 17, 15 "no room, .. in the room lent for a list"
 abbrev pub listRefusals : List ℕ → State → List ℕ → List Refusal
-listRefusals t st room =
-    refuse 18 (TableLength t) ∷ refuse 17 (WholeDamaged t st) ∷ refuse 15 (RoomLentShort (view (slots t) t) room) ∷ []
+listRefusals t st room = length18 t ∷ whole17 t st ∷ lent15 t room ∷ []
