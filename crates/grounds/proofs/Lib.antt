@@ -17,3 +17,4 @@ pub mod Spans
 pub mod Reaches
 pub mod Whole
 pub mod Each
+pub mod Program

@@ -9,3 +9,4 @@ pub mod Commits
 pub mod Step
 pub mod Ways
 pub mod Whole
+pub mod Program
