@@ -1,6 +1,6 @@
 -- Reset, begin and abandon: each refusal is given exactly when its ground holds and no earlier one does.
 use Prim.Native.Nat.{ℕ}
-use mathlib.Core.Path.{_≡_, refl}
+use mathlib.Core.Path.{refl}
 use mathlib.Core.Bool.{not}
 use mathlib.Core.List.{List, [], _∷_}
 use mathlib.Core.Logic.{inl}

@@ -1,14 +1,14 @@
 -- From a call that looks at one ground after another to the theorem on its refusals.
 use Prim.Native.Nat.{ℕ}
-use mathlib.Core.Path.{_≡_, refl, sym, _∙_}
-use mathlib.Core.Bool.{Bool, true, false, _&&_, not, true≢false, false≢true}
+use mathlib.Core.Path.{_≡_, refl}
+use mathlib.Core.Bool.{Bool, true, false, _&&_, not}
 use mathlib.Core.List.{List, [], _∷_, _++_}
-use mathlib.Core.Logic.{_⊎_, inl, inr, _↔_}
+use mathlib.Core.Logic.{inl, inr}
 use lib.Dec.{eqb}
 use borrow.Author.Tests.{eqb-false, not-true}
 use Rattle.machine.specs.Choice.{ifB}
 use Rattle.machine.proofs.Tests.{both-first, both-second}
-use Rattle.grounds.specs.Order.{Refusal, None, Given, Each, Among, numbers, Ruled}
+use Rattle.grounds.specs.Order.{Refusal, None, Each, Among, numbers, Ruled}
 use Rattle.grounds.proofs.Says.{Says}
 
 -- the first ground that holds gives its number; where none does the call is served

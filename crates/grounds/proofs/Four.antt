@@ -1,16 +1,15 @@
 -- What a step's phase comes to: 17, 16, 15, 6, or an answer from 0 to 5; and what readings and commits share.
 use Prim.Native.Nat.{ℕ}
 use mathlib.Core.Path.{_≡_, refl}
-use mathlib.Core.Bool.{Bool, true, false, _&&_, not}
+use mathlib.Core.Bool.{Bool, not}
 use mathlib.Core.List.{List, [], _∷_}
 use mathlib.Core.Logic.{_⊎_, inl, inr, _↔_}
 use Rattle.terms.specs.declared.Rec.{Rec}
 use Rattle.terms.specs.declared.Task.{Task}
 use Rattle.terms.specs.declared.Turn.{Turn}
-use Rattle.terms.specs.declared.Turn.the-variants.{Hurt, Next, Done}
 use Rattle.machine.specs.Choice.{ifB}
 use Rattle.machine.specs.Answers.{numberOf}
-use Rattle.machine.specs.Commit.{reading, Did, calm, commitIf}
+use Rattle.machine.specs.Commit.{reading, Did, commitIf}
 use Rattle.machine.specs.Step.{answered}
 use Rattle.grounds.specs.Order.{Refusal, Among}
 use Rattle.grounds.specs.Calls.{refuse}

@@ -1,14 +1,11 @@
 -- Lists of numbers without one that stands twice.
-use Prim.Native.Nat.{ℕ, zero, suc, _+_, _≤_, _<_}
+use Prim.Native.Nat.{ℕ, suc, _+_, _≤_}
 use mathlib.Core.Path.{_≡_, refl, sym, _∙_}
-use mathlib.Core.Bool.{Bool, true, false}
 use mathlib.Core.List.{List, [], _∷_, _++_}
 use mathlib.Core.Logic.{_⊎_, inl, inr, _≢_}
 use native.Mathlib.Omega.{arith}
-use lib.Dec.{eqb}
 use lib.ListN.{length}
 use Rattle.grounds.specs.Order.{Among, Twice}
-use Rattle.grounds.proofs.Says.{says-eq}
 
 pub among-left : (xs ys : List ℕ) (a : ℕ) → Among xs a → Among (xs ++ ys) a
 among-left (x ∷ xs) ys a (inl h) = inl h

@@ -1,21 +1,19 @@
 -- 19 is given exactly for a bad record, before everything else; no call gives it.
-use Prim.Native.Nat.{ℕ, zero, suc, _+_, _*_, _≤_, _<_}
-use mathlib.Core.Path.{_≡_, refl, sym, _∙_}
+use Prim.Native.Nat.{ℕ, zero, suc, _≤_, _<_}
+use mathlib.Core.Path.{_≡_, refl}
 use mathlib.Core.Bool.{Bool, true, false, _&&_, not, true≢false, false≢true}
-use mathlib.Core.List.{List, [], _∷_}
+use mathlib.Core.List.{List}
 use mathlib.Core.Logic.{_⊎_, inl, inr, _↔_, _≢_}
 use native.Mathlib.Omega.{arith}
-use lib.Dec.{ltb, leb, eqb}
-use lib.ListN.{length, getD}
+use lib.Dec.{leb, eqb}
+use lib.ListN.{length}
 use Rattle.terms.specs.declared.State.{State}
 use Rattle.terms.specs.declared.Call.{Call}
 use Rattle.terms.specs.declared.Call.the-variants.{Begin, Steps, Abandon, Tidy, Bad}
-use Rattle.machine.specs.Choice.{ifB}
 use Rattle.machine.specs.Answers.{numberOf}
 use Rattle.machine.specs.Step.{Left, stepOf}
-use Rattle.machine.specs.CallFile.{byte, two, four, countOf, jobOf, noJob, begins, steps, abandons, tidies, operationOf, byOperation, decode, runOf, serve}
+use Rattle.machine.specs.CallFile.{two, four, noJob, begins, steps, abandons, tidies, operationOf, byOperation, decode, runOf, serve}
 use Rattle.machine.proofs.Choice.{if-elim}
-use Rattle.grounds.specs.Order.{Among}
 use Rattle.grounds.specs.Program.{operationIn, taskIn, countIn, numberIn, priceIn, BadRecord, a-short-last-record, no-such-operation, no-count-to-step, an-unused-count, an-unused-number, an-unused-price, an-unused-task}
 use Rattle.grounds.proofs.Says.{Says, true-if, says-both, Denies, denies, denies-not, denies-both, says-eq, says-lt, says-le}
 use Rattle.grounds.proofs.Each.{begin-never, step-never, abandon-never, tidy-never}

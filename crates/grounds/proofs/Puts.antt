@@ -1,27 +1,23 @@
 -- A step of a put-in after its walk: 17, 16 and 15 exactly on their grounds.
-use Prim.Native.Nat.{ℕ, _≤_, _<_}
+use Prim.Native.Nat.{ℕ, _≤_}
 use mathlib.Core.Path.{_≡_, refl}
-use mathlib.Core.Bool.{Bool, true, false, not, _&&_}
-use mathlib.Core.List.{List, [], _∷_}
-use mathlib.Core.Logic.{_⊎_, inl, inr, _↔_, _≢_}
-use lib.Dec.{leb, eqb}
-use Rattle.terms.specs.declared.Rec.{Rec}
+use mathlib.Core.Bool.{Bool}
+use mathlib.Core.List.{List, []}
+use mathlib.Core.Logic.{_⊎_, inl, inr, _≢_}
 use Rattle.terms.specs.declared.Links.{Links}
 use Rattle.terms.specs.declared.Path.{Path}
 use Rattle.terms.specs.declared.Job.{Job}
 use Rattle.terms.specs.declared.Phase.the-variants.{PuttingIn}
 use Rattle.terms.specs.declared.PutStage.{PutStage}
 use Rattle.terms.specs.declared.PutStage.the-variants.{PutParent, PutLeaf, PutCommit}
-use Rattle.machine.specs.Choice.{ifB}
-use Rattle.machine.specs.Record.{wellFormed, linked, isLeaf, leads, still}
-use Rattle.machine.specs.Table.{View, view, slot3}
+use Rattle.machine.specs.Table.{view}
 use Rattle.machine.specs.PutIn.{putGrounds, putTest, putTurn, putRoom, putLimit, putCommit, readPutParent, readPutLeaf, putStep}
-use Rattle.grounds.specs.Record.{NoLinks, LeadTo, AsNoted, Unreadable, ChildUnreadable}
+use Rattle.grounds.specs.Record.{NoLinks, LeadTo, Unreadable, ChildUnreadable}
 use Rattle.grounds.specs.Room.{Room}
-use Rattle.grounds.specs.Commits.{of-a-put-in, at-the-commit-of-a-put-in, PutTest, PutBefore, one-and-the-same, parent-doesnt-lead-on, not-on-a-leaf-of-another-number, AtLimit, WithoutRoom, TooFewSlots}
+use Rattle.grounds.specs.Commits.{of-a-put-in, at-the-commit-of-a-put-in, PutTest, one-and-the-same, parent-doesnt-lead-on, not-on-a-leaf-of-another-number, AtLimit, WithoutRoom, TooFewSlots}
 use Rattle.grounds.specs.Step.{PhaseDamaged, record-unreadable, arrival-outranks, before-the-test, after-the-test}
 use Rattle.grounds.proofs.Says.{Says, says-not, says-both, Denies, denies, denies-not, denies-both, says-eq, says-le}
-use Rattle.grounds.proofs.Falls.{Falls, serves, strikes, passes, if-falls, look}
+use Rattle.grounds.proofs.Falls.{Falls, serves, passes, if-falls, look}
 use Rattle.grounds.proofs.Records.{says-leaf, says-still, says-leads, denies-unreadable, denies-child}
 use Rattle.grounds.proofs.Rooms.{says-no-room-3}
 use Rattle.grounds.proofs.Four.{plainAnswers, numberTurn, numberDid, Fours, fours-as, only-hurts, falls-as, read-hurts, commit-falls}

@@ -1,27 +1,24 @@
 -- What the entry reaches is damaged exactly where document 01 says so.
-use Prim.Native.Nat.{ℕ, zero, suc, _+_, _*_, _≤_, _<_}
+use Prim.Native.Nat.{ℕ, zero, suc, _+_, _≤_, _<_}
 use mathlib.Core.Path.{_≡_, refl, sym, ap, _∙_}
-use mathlib.Core.Bool.{Bool, true, false, _&&_, not, true≢false, false≢true}
+use mathlib.Core.Bool.{Bool, true, false, _&&_, not, true≢false}
 use mathlib.Core.List.{List, [], _∷_, _++_}
-use mathlib.Core.Logic.{_⊎_, inl, inr, _≢_, _↔_}
+use mathlib.Core.Logic.{_⊎_, inl, inr, _≢_}
 use native.Mathlib.Omega.{arith}
-use lib.Dec.{eqb}
 use lib.ListN.{length, getD, set, replicate, length-set, length-replicate}
 use Rattle.terms.specs.declared.Rec.{Rec}
-use Rattle.machine.specs.Choice.{ifB}
-use Rattle.machine.specs.Record.{wellFormed, linked, inTree, isLeaf}
+use Rattle.machine.specs.Record.{wellFormed, inTree, isLeaf}
 use Rattle.machine.specs.Table.{View, view}
-use Rattle.machine.specs.Reach.{Tree, leaf, node, Reached, hurt, reached, joinLeft, joinRight, reachable, reachFrom, reach, countFares}
+use Rattle.machine.specs.Reach.{Tree, leaf, node, Reached, hurt, reached, joinLeft, joinRight, reachable, reachFrom, reach}
 use Rattle.machine.proofs.Choice.{if-elim}
-use Rattle.machine.proofs.Tests.{formed-in}
 use Rattle.machine.proofs.Reach.{reach-hurt, reach-leaf, reach-inner}
-use Rattle.grounds.specs.Order.{Among, Twice}
+use Rattle.grounds.specs.Order.{Among}
 use Rattle.grounds.specs.Record.{WellFormed}
-use Rattle.grounds.specs.Ways.{Way, linkOn, Goes, ReachDamaged, not-well-formed, in-state-2, reached-twice, Fare, Fares, RoomLentShort}
-use Rattle.grounds.proofs.Says.{Says, Denies, denies-not, denies-both, denies-as, says-struck, unless, when-not, says-both, says-eq}
+use Rattle.grounds.specs.Ways.{Way, linkOn, Goes, ReachDamaged, not-well-formed, in-state-2, reached-twice, Fare, Fares}
+use Rattle.grounds.proofs.Says.{Denies, denies-not, denies-both, says-struck, unless, says-both, says-eq}
 use Rattle.grounds.proofs.Records.{says-in-tree, says-leaf, says-formed, says-linked}
 use Rattle.grounds.proofs.Lists.{no-longer}
-use Rattle.grounds.proofs.Spans.{unmarked, unmarked-set, unmarked-all, mark-kept, mark-made, fareSlots, count-slots, Spans, below, bare, not-entry, sound-here, spans-leaf, spans-node}
+use Rattle.grounds.proofs.Spans.{unmarked, unmarked-set, unmarked-all, mark-kept, mark-made, fareSlots, Spans, below, bare, not-entry, sound-here, spans-leaf, spans-node}
 
 -- hurt is nothing reached
 abbrev isHurt : Reached → Bool

@@ -1,18 +1,16 @@
 -- The tests on records say what document 01 says.
-use Prim.Native.Nat.{ℕ, _+_, _≤_, _<_}
-use mathlib.Core.Path.{_≡_, refl, sym, _∙_}
-use mathlib.Core.Bool.{Bool, true, false, _&&_, _||_, not}
+use Prim.Native.Nat.{ℕ, _≤_}
+use mathlib.Core.Path.{_≡_}
 use mathlib.Core.List.{List}
-use mathlib.Core.Logic.{_⊎_, inl, inr, _↔_, _≢_}
+use mathlib.Core.Logic.{_⊎_, inl, inr, _≢_}
 use native.Mathlib.Omega.{arith}
-use lib.Dec.{ltb, leb, eqb}
 use Rattle.terms.specs.declared.Rec.{Rec}
 use Rattle.terms.specs.declared.Links.{Links}
 use Rattle.machine.specs.Record.{topNumber, inTree, sentinel, numberFits, priceFits, fareMarks, innerMarks, isLink, isLeaf, isInner, plainForm, entryForm, wellFormed, linked, level, leads, still}
-use Rattle.machine.specs.Table.{View, view}
-use Rattle.machine.proofs.Tests.{formed-in, linked-in}
+use Rattle.machine.specs.Table.{view}
+use Rattle.machine.proofs.Tests.{formed-in}
 use Rattle.grounds.specs.Record.{FareNumber, Price, Link, NoLinks, Leaf, Inner, Entry, WellFormed, Sentinel, Level, LeadTo, AsNoted, Unreadable, outside-the-table, not-well-formed, ChildUnreadable, missing, there-but}
-use Rattle.grounds.proofs.Says.{Says, true-if, says-not, says-as, says-both, says-either, Denies, denies, denies-as, denies-both, says-eq, says-lt, says-le}
+use Rattle.grounds.proofs.Says.{Says, says-not, says-as, says-both, says-either, Denies, denies, denies-as, denies-both, says-eq, says-lt, says-le}
 
 pub says-number : (k : ℕ) → Says (numberFits k) (FareNumber k)
 unfolding numberFits

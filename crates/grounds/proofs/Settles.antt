@@ -1,11 +1,11 @@
 -- What settling steps share: s, y and w; the grounds before the test; the changes after it.
-use Prim.Native.Nat.{ℕ, _+_, _-_, _≤_, _<_}
-use mathlib.Core.Path.{_≡_, refl, sym, _∙_}
-use mathlib.Core.Bool.{Bool, true, false, not, _&&_, true≢false, false≢true}
+use Prim.Native.Nat.{ℕ, _-_, _≤_}
+use mathlib.Core.Path.{_≡_, refl, sym}
+use mathlib.Core.Bool.{Bool, true, false, not, true≢false}
 use mathlib.Core.List.{List, [], _∷_}
 use mathlib.Core.Logic.{_⊎_, inl, inr, _↔_, _≢_}
 use native.Mathlib.Omega.{arith}
-use lib.Dec.{leb, eqb}
+use lib.Dec.{eqb}
 use borrow.Author.Tests.{eq-eqb, ne-eqb}
 use Rattle.terms.specs.declared.Rec.{Rec}
 use Rattle.terms.specs.declared.Links.{Links}
@@ -17,22 +17,20 @@ use Rattle.terms.specs.declared.ParentRow.the-variants.{Outranked, Promote, Wid
 use Rattle.terms.specs.declared.LevelRow.{LevelRow}
 use Rattle.terms.specs.declared.LevelRow.the-variants.{NoRow, RotateOne, RotateTwo, DoubleRotation}
 use Rattle.machine.specs.Choice.{ifB}
-use Rattle.machine.specs.Record.{wellFormed, linked, leads, level, other}
-use Rattle.machine.specs.Table.{View, view, slot1, slot2, slot3}
-use Rattle.machine.specs.Commit.{Did}
+use Rattle.machine.specs.Record.{wellFormed, level, other}
+use Rattle.machine.specs.Table.{View, view}
 use Rattle.machine.specs.Rows.{linkAt, aroundOf}
 use Rattle.machine.specs.Settling.{groundsTwo, groundsThree, groundsFour, testTwo, testThree, testFour, promoteDo, rotateDo, rotateTwoDo, doubleDo, rotateBy, doubleBy, promoteBy, chooseFormed, turnFormed, isWider, isDouble}
-use Rattle.grounds.specs.Record.{WellFormed, Level, LeadTo, AsNoted, Unreadable, not-well-formed, ChildUnreadable, missing, there-but}
+use Rattle.grounds.specs.Record.{WellFormed, Level, LeadTo, Unreadable, not-well-formed, ChildUnreadable, there-but}
 use Rattle.grounds.specs.Room.{Room}
 use Rattle.grounds.specs.Settle.{Other, x-is-left, x-is-not-left, Named, s-is-right, s-is-left, LetS, LetSYW, Close, Wide, Double, Row, promote, RowDamaged, s-outranks-z, a-new-rank-would-pass-28, PromoteDamaged, s-outranks-z-alone, promote-would-pass-28, rotate-case-2}
-use Rattle.grounds.specs.Order.{Twice}
 use Rattle.grounds.specs.Commits.{SettleBefore, one-and-the-same, pz-doesnt-lead-on, z-doesnt-lead-on, not-level-with-its-parent, TestTwo, TestThree, TestFour}
-use Rattle.grounds.proofs.Says.{Says, says-not, says-as, says-both, Denies, denies, denies-not, denies-as, denies-both, says-eq, says-le}
-use Rattle.grounds.proofs.Falls.{Falls, serves, strikes, passes, if-falls, look}
+use Rattle.grounds.proofs.Says.{Says, says-both, Denies, denies, denies-not, denies-as, denies-both, says-eq, says-le}
+use Rattle.grounds.proofs.Falls.{serves, strikes, passes, if-falls, look}
 use Rattle.grounds.proofs.Records.{says-formed, says-level, says-still, says-leads, denies-unreadable, denies-child}
 use Rattle.grounds.proofs.Rooms.{says-no-room-1, says-no-room-2, says-no-room-3}
-use Rattle.grounds.proofs.Rows.{ParentIs, LevelIs, promote-fine, damaged-promote, damaged-one, damaged-two, damaged-double, damaged-none, short-promote, short-one, short-two, short-double, close-wide}
-use Rattle.grounds.proofs.Four.{plainAnswers, numberDid, Fours, fours-as, falls-as}
+use Rattle.grounds.proofs.Rows.{ParentIs, LevelIs, promote-fine, damaged-promote, damaged-one, damaged-two, damaged-double, damaged-none, short-promote, short-one, short-two, short-double}
+use Rattle.grounds.proofs.Four.{plainAnswers, numberDid, Fours, falls-as}
 
 -- "Let s be z's other child": there is one
 pub at-s : (b : Links) (x : ℕ) (G : ℕ → Type 0) → LetS b x G ↔ G (other b x)

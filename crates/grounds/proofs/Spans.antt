@@ -1,9 +1,9 @@
 -- What a slot reaches, where the way down ends well: every record is sound, no slot is reached by two ways, the fares are those of the tree.
 use Prim.Native.Nat.{ℕ, zero, suc, _+_, _≤_, _<_}
 use mathlib.Core.Path.{_≡_, refl, sym, ap, _∙_}
-use mathlib.Core.Bool.{Bool, true, false, _&&_, true≢false, false≢true}
+use mathlib.Core.Bool.{Bool, true, false}
 use mathlib.Core.List.{List, [], _∷_, _++_}
-use mathlib.Core.Logic.{_⊎_, inl, inr, _≢_, _↔_}
+use mathlib.Core.Logic.{_⊎_, inl, inr, _≢_}
 use native.Mathlib.Nat.{not-suc-le-zero, le-of-suc-le-suc}
 use native.Mathlib.Omega.{arith}
 use lib.Dec.{eqb}
@@ -11,16 +11,16 @@ use lib.ListN.{length, getD, set, replicate, length-set, length-append}
 use lib.Seq.{getD-set-same, getD-set-other}
 use borrow.Author.Tests.{eq-eqb}
 use Rattle.terms.specs.declared.Rec.{Rec}
-use Rattle.machine.specs.Record.{wellFormed, linked, inTree, isLeaf, isFare, sentinel}
+use Rattle.machine.specs.Record.{isLeaf, isFare}
 use Rattle.machine.specs.Table.{View, view}
 use Rattle.machine.specs.State.{one}
-use Rattle.machine.specs.Reach.{Tree, leaf, node, Reached, hurt, reached, joinLeft, joinRight, reachable, reachFrom, countFares}
-use Rattle.machine.proofs.Reach.{reach-hurt, reach-leaf, reach-inner, reach-unmarked, reach-in}
+use Rattle.machine.specs.Reach.{Tree, leaf, node, reachable, countFares}
+use Rattle.machine.proofs.Reach.{reach-unmarked, reach-in}
 use Rattle.grounds.specs.Order.{Among, Twice}
-use Rattle.grounds.specs.Record.{NoLinks, WellFormed}
+use Rattle.grounds.specs.Record.{WellFormed}
 use Rattle.grounds.specs.Ways.{Way, linkOn, Goes, Fare}
-use Rattle.grounds.proofs.Says.{Says, true-if, says-not, says-both, says-eq}
-use Rattle.grounds.proofs.Records.{says-in-tree, says-leaf, says-sentinel, says-formed, says-linked}
+use Rattle.grounds.proofs.Says.{Says, says-not, says-both, says-eq}
+use Rattle.grounds.proofs.Records.{says-in-tree, says-leaf, says-sentinel, says-linked}
 use Rattle.grounds.proofs.Lists.{among-left, among-right, among-either, twice-append}
 
 -- how many slots have no mark

@@ -1,9 +1,9 @@
 -- A settling step after its walk: 17 and 6 exactly on their grounds.
-use Prim.Native.Nat.{ℕ, _+_, _≤_, _<_}
+use Prim.Native.Nat.{ℕ, _≤_}
 use mathlib.Core.Path.{_≡_, refl}
-use mathlib.Core.Bool.{Bool, true, false, not, true≢false, false≢true}
+use mathlib.Core.Bool.{true, false, not, true≢false, false≢true}
 use mathlib.Core.List.{List, [], _∷_}
-use mathlib.Core.Logic.{_⊎_, inl, inr, _↔_}
+use mathlib.Core.Logic.{_⊎_, inl, inr}
 use native.Mathlib.Omega.{arith}
 use Rattle.terms.specs.declared.Rec.{Rec}
 use Rattle.terms.specs.declared.Links.{Links}
@@ -16,23 +16,22 @@ use Rattle.terms.specs.declared.ParentRow.{ParentRow}
 use Rattle.terms.specs.declared.ParentRow.the-variants.{Outranked, Promote, Wider}
 use Rattle.terms.specs.declared.LevelRow.{LevelRow}
 use Rattle.terms.specs.declared.LevelRow.the-variants.{NoRow, RotateOne, RotateTwo, DoubleRotation}
-use Rattle.machine.specs.Choice.{ifB}
 use Rattle.machine.proofs.Choice.{if-elim}
-use Rattle.machine.specs.Record.{inTree, other}
-use Rattle.machine.specs.Table.{View, view}
+use Rattle.machine.specs.Record.{other}
+use Rattle.machine.specs.Table.{view}
 use Rattle.machine.specs.Commit.{reading, Did, calm}
 use Rattle.machine.specs.Rows.{parentRow, levelRow, aroundOf}
-use Rattle.machine.specs.Settling.{readGrand, readParent, readOn, rotateBy, doubleBy, promoteBy, commitTwo, commitThree, commitFour, chooseFormed, turnFormed, isWider, isDouble, chooseBy, chooseStep, rotateOn, rotateTurn, rotateFirst, rotateStep, doubleTurn, doubleFirst, doubleStep, settleStep}
+use Rattle.machine.specs.Settling.{readGrand, readParent, readOn, commitTwo, commitThree, commitFour, chooseFormed, turnFormed, isWider, isDouble, chooseBy, chooseStep, rotateOn, rotateTurn, rotateFirst, rotateStep, doubleTurn, doubleFirst, doubleStep, settleStep}
 use Rattle.grounds.specs.Order.{Among}
-use Rattle.grounds.specs.Record.{Level, Unreadable, ChildUnreadable}
+use Rattle.grounds.specs.Record.{Unreadable, ChildUnreadable}
 use Rattle.grounds.specs.Room.{Room}
-use Rattle.grounds.specs.Settle.{LetS, LetSYW, Close, Wide, Double, RowDamaged, PromoteDamaged}
+use Rattle.grounds.specs.Settle.{Close, Wide, Double, PromoteDamaged}
 use Rattle.grounds.specs.Reads.{z-to-choose, x-to-choose, s-to-choose, y-to-rotate, w-to-rotate, pz-to-commit, y-to-commit, ChooseUnreadable, RotateUnreadable, DoubleUnreadable, DoubleNow}
 use Rattle.grounds.specs.Commits.{with-pz-and-z-read, with-x-read, with-y-read, SettleBefore, not-level-with-its-parent, TestTwo, TestThree, TestFour, RowDamagedNow, NoSlotsNow, AtLimit, WithoutRoom, TooFewSlots}
 use Rattle.grounds.specs.Step.{PhaseDamaged, record-unreadable, arrival-outranks, before-the-test, after-the-test}
-use Rattle.grounds.proofs.Says.{Says, Denies, says-struck}
-use Rattle.grounds.proofs.Falls.{Falls, serves, strikes, passes, if-falls}
-use Rattle.grounds.proofs.Records.{denies-unreadable, denies-child}
+use Rattle.grounds.proofs.Says.{says-struck}
+use Rattle.grounds.proofs.Falls.{if-falls}
+use Rattle.grounds.proofs.Records.{denies-unreadable}
 use Rattle.grounds.proofs.Rows.{ParentIs, LevelIs, parent-is, level-is, close-wide, wide-fine}
 use Rattle.grounds.proofs.Settles.{at-s, at-syw, denies-choose, denies-turn, denies-two, denies-three, denies-four, says-two, says-three, says-four, level-small, promote-alone, promote-change, rotate-change, double-change}
 use Rattle.grounds.proofs.Four.{plainAnswers, numberTurn, numberDid, Hurts, Fours, fours-as, only-hurts, served-now, falls-as, either-falls, read-hurts, commit-falls}

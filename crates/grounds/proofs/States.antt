@@ -1,12 +1,12 @@
 -- The tests on length, numbers handed in and state say what document 01 says.
-use Prim.Native.Nat.{ℕ, zero, suc, _+_, _*_, _/_, _%_, _≤_, _<_}
+use Prim.Native.Nat.{ℕ, zero, suc, _+_, _*_, _/_, _%_, _<_}
 use mathlib.Core.Path.{_≡_, refl, sym, ap, _∙_}
-use mathlib.Core.Bool.{Bool, true, false, _&&_, _||_, not, true≢false, false≢true}
+use mathlib.Core.Bool.{Bool, true, false, _||_, true≢false, false≢true}
 use mathlib.Core.List.{List}
 use mathlib.Core.Logic.{_⊎_, inl, inr, _≢_}
 use native.Mathlib.Omega.{arith}
-use lib.Dec.{leb, eqb}
-use lib.ListN.{length, getD}
+use lib.Dec.{eqb}
+use lib.ListN.{length}
 use Rattle.terms.specs.declared.Job.{Job}
 use Rattle.terms.specs.declared.Operation.{Operation}
 use Rattle.terms.specs.declared.Operation.the-variants.{LookUp, PutIn, TakeOut}
@@ -15,13 +15,12 @@ use Rattle.terms.specs.declared.Goal.the-variants.{Serve, Settle}
 use Rattle.terms.specs.declared.Work.{Work}
 use Rattle.terms.specs.declared.Work.the-variants.{Idle, Busy}
 use Rattle.terms.specs.declared.Phase.{Phase}
-use Rattle.terms.specs.declared.Task.{Task}
 use Rattle.terms.specs.declared.State.{State}
-use Rattle.terms.specs.Task.{idleTask, goalOf, goalSettles, workSettles, isBusy}
+use Rattle.terms.specs.Task.{goalOf, goalSettles, workSettles, isBusy}
 use Rattle.machine.specs.Table.{lengthFits}
 use Rattle.machine.specs.State.{taskAt, one, settling, busyTasks, countOpen, sound, jobFits, mayPrice, askFits}
-use Rattle.grounds.specs.State.{Fits, JobOutOfRange, OutOfRange, number-or-price, look-up-with-price, take-out-with-price, TaskBusy, TaskIdle, TaskSettles, SomeTaskBusy, Settling, none-yet, one-more, no-more, CountsDamaged, m-above-1000000, u-plus-settling-above-m}
-use Rattle.grounds.proofs.Says.{Says, true-if, false-if, says-not, says-as, says-both, says-either, Denies, denies, denies-not, denies-as, denies-both, says-eq, says-lt, says-le}
+use Rattle.grounds.specs.State.{Fits, JobOutOfRange, OutOfRange, number-or-price, look-up-with-price, take-out-with-price, TaskSettles, SomeTaskBusy, Settling, none-yet, one-more, no-more, CountsDamaged, m-above-1000000, u-plus-settling-above-m}
+use Rattle.grounds.proofs.Says.{Says, true-if, false-if, says-as, says-both, Denies, denies-not, denies-as, denies-both, says-eq, says-le}
 use Rattle.grounds.proofs.Records.{says-number, says-price}
 
 -- 18

@@ -1,7 +1,7 @@
 -- STEP: each refusal is given exactly when its ground holds and no earlier one does; likewise the answer 6.
-use Prim.Native.Nat.{ℕ, _≤_, _<_}
-use mathlib.Core.Path.{_≡_, refl, sym, ap}
-use mathlib.Core.Bool.{Bool, true, false, not, _&&_, true≢false, false≢true}
+use Prim.Native.Nat.{ℕ}
+use mathlib.Core.Path.{_≡_, refl, ap}
+use mathlib.Core.Bool.{Bool, true, false, not, _&&_, true≢false}
 use mathlib.Core.List.{List, [], _∷_}
 use mathlib.Core.Logic.{_⊎_, inl, inr, _↔_}
 use Rattle.terms.specs.declared.Job.{Job}
@@ -10,25 +10,24 @@ use Rattle.terms.specs.declared.Work.{Work}
 use Rattle.terms.specs.declared.Work.the-variants.{Idle, Busy}
 use Rattle.terms.specs.declared.Phase.{Phase}
 use Rattle.terms.specs.declared.Phase.the-variants.{Start, Walk, PuttingIn, TakingOut, Settling}
-use Rattle.terms.specs.Task.{isBusy, noGrand}
+use Rattle.terms.specs.Task.{isBusy}
 use Rattle.machine.specs.Answers.{numberOf}
 use Rattle.machine.specs.Record.{numberFits}
-use Rattle.machine.specs.Table.{View, view, slots}
+use Rattle.machine.specs.Table.{view, slots}
 use Rattle.machine.specs.State.{taskAt, sound, jobFits}
-use Rattle.machine.specs.Walk.{walkFrom, walkOn}
-use Rattle.machine.specs.Step.{Left, phaseStep, carried, stepWork, stepOf}
+use Rattle.machine.specs.Step.{phaseStep, carried, stepWork, stepOf}
 use Rattle.grounds.specs.Order.{Refusal, Ruled}
 use Rattle.grounds.specs.Record.{FareNumber}
-use Rattle.grounds.specs.State.{JobOutOfRange, CountsDamaged, TaskIdle}
+use Rattle.grounds.specs.State.{JobOutOfRange, CountsDamaged}
 use Rattle.grounds.specs.Calls.{refuse}
 use Rattle.grounds.specs.Commits.{AtLimit, WithoutRoom, TooFewSlots}
-use Rattle.grounds.specs.Step.{PhaseDamaged, StepDamaged, counts, number-or-price-out-of-range, of-its-phase, Of, stepRefusals}
-use Rattle.grounds.proofs.Says.{Says, Denies, denies-both, says-struck, says-lt}
-use Rattle.grounds.proofs.Falls.{Falls, serves, strikes, passes, ruled, look}
+use Rattle.grounds.specs.Step.{PhaseDamaged, StepDamaged, counts, number-or-price-out-of-range, of-its-phase, stepRefusals}
+use Rattle.grounds.proofs.Says.{denies-both, says-struck, says-lt}
+use Rattle.grounds.proofs.Falls.{Falls, strikes, passes, ruled, look}
 use Rattle.grounds.proofs.Records.{says-number}
 use Rattle.grounds.proofs.States.{denies-job, denies-counts}
 use Rattle.grounds.proofs.Calls.{numberLeft, says-length}
-use Rattle.grounds.proofs.Four.{plainAnswers, numberTurn, numberDid, Fours, fours-as, only-hurts, either-falls}
+use Rattle.grounds.proofs.Four.{plainAnswers, numberDid, Fours, fours-as, only-hurts, either-falls}
 use Rattle.grounds.proofs.Walks.{start-hurts, walk-hurts}
 use Rattle.grounds.proofs.Puts.{put-fours}
 use Rattle.grounds.proofs.Takes.{take-fours}

@@ -1,11 +1,10 @@
 -- A step of a take-out after its walk: 17 and 15 exactly on their grounds.
-use Prim.Native.Nat.{ℕ, _≤_, _<_}
+use Prim.Native.Nat.{ℕ}
 use mathlib.Core.Path.{_≡_, refl, sym}
 use mathlib.Core.Bool.{Bool, true, false, not, _&&_}
 use mathlib.Core.List.{List, [], _∷_}
-use mathlib.Core.Logic.{_⊎_, inl, inr, _↔_, _≢_}
-use lib.Dec.{leb, eqb}
-use borrow.Author.Tests.{eq-eqb, ne-eqb}
+use mathlib.Core.Logic.{_⊎_, inl, inr}
+use lib.Dec.{eqb}
 use Rattle.terms.specs.declared.Rec.{Rec}
 use Rattle.terms.specs.declared.Links.{Links}
 use Rattle.terms.specs.declared.Path.{Path}
@@ -14,19 +13,19 @@ use Rattle.terms.specs.declared.Phase.the-variants.{TakingOut}
 use Rattle.terms.specs.declared.TakeStage.{TakeStage}
 use Rattle.terms.specs.declared.TakeStage.the-variants.{TakeGrand, TakeParent, TakeLeft, TakeRight, TakeCommit}
 use Rattle.machine.specs.Choice.{ifB}
-use Rattle.machine.specs.Record.{wellFormed, linked, isLeaf, leads, still}
-use Rattle.machine.specs.Table.{View, view, slot1}
+use Rattle.machine.specs.Record.{leads}
+use Rattle.machine.specs.Table.{View, view}
 use Rattle.machine.specs.TakeOut.{takeApart, takeLeaf, takeGrounds, takeTest, takeRoom, takeCommit, readTakeGrand, readTakeParent, readTakeLeft, readTakeRight, takeStep}
-use Rattle.grounds.specs.Record.{NoLinks, LeadTo, AsNoted, Unreadable, ChildUnreadable}
+use Rattle.grounds.specs.Record.{NoLinks, LeadTo, Unreadable, ChildUnreadable}
 use Rattle.grounds.specs.Room.{Room}
 use Rattle.grounds.specs.Order.{Twice}
-use Rattle.grounds.specs.Commits.{of-a-take-out, at-the-commit-of-a-take-out, TakeTest, TakeBefore, one-and-the-same, grandparent-doesnt-lead-on, parent-doesnt-lead-on, not-on-a-leaf-of-its-own-number, AtLimit, WithoutRoom, TooFewSlots}
+use Rattle.grounds.specs.Commits.{of-a-take-out, at-the-commit-of-a-take-out, TakeTest, one-and-the-same, grandparent-doesnt-lead-on, parent-doesnt-lead-on, not-on-a-leaf-of-its-own-number, AtLimit, WithoutRoom, TooFewSlots}
 use Rattle.grounds.specs.Step.{PhaseDamaged, record-unreadable, arrival-outranks, before-the-test, after-the-test}
-use Rattle.grounds.proofs.Says.{Says, says-not, says-as, says-both, Denies, denies, denies-not, denies-as, denies-both, denies-then, says-eq, says-le}
-use Rattle.grounds.proofs.Falls.{Falls, serves, strikes, passes, if-falls, look}
+use Rattle.grounds.proofs.Says.{Says, says-as, says-both, Denies, denies, denies-not, denies-as, denies-both, denies-then, says-eq}
+use Rattle.grounds.proofs.Falls.{serves, passes, look}
 use Rattle.grounds.proofs.Records.{says-leaf, says-still, says-leads, denies-unreadable, denies-child}
 use Rattle.grounds.proofs.Rooms.{says-no-room-1}
-use Rattle.grounds.proofs.Four.{plainAnswers, numberDid, Hurts, Fours, fours-as, only-hurts, falls-as, read-hurts, commit-falls}
+use Rattle.grounds.proofs.Four.{numberDid, Hurts, Fours, fours-as, only-hurts, falls-as, read-hurts, commit-falls}
 
 -- two of four slots are the same
 pub denies-same :

@@ -1,8 +1,8 @@
 -- A step of the walk gives 17 exactly on its grounds, and no other refusal.
-use Prim.Native.Nat.{ℕ, _≤_, _<_}
+use Prim.Native.Nat.{ℕ, _<_}
 use mathlib.Core.Path.{_≡_, refl, sym}
 use mathlib.Core.Bool.{Bool, true, false, not}
-use mathlib.Core.List.{List, [], _∷_}
+use mathlib.Core.List.{List, []}
 use mathlib.Core.Logic.{_⊎_, inl, inr, _↔_}
 use native.Mathlib.Omega.{arith}
 use lib.Dec.{ltb, eqb}
@@ -14,17 +14,16 @@ use Rattle.terms.specs.declared.Operation.{Operation}
 use Rattle.terms.specs.declared.Operation.the-variants.{LookUp, PutIn, TakeOut}
 use Rattle.terms.specs.declared.Goal.{Goal}
 use Rattle.terms.specs.declared.Goal.the-variants.{Serve, Settle}
-use Rattle.terms.specs.declared.Turn.{Turn}
 use Rattle.terms.specs.declared.Phase.the-variants.{Start, Walk}
 use Rattle.terms.specs.Task.{noGrand}
 use Rattle.machine.specs.Choice.{ifB}
-use Rattle.machine.specs.Record.{wellFormed, linked, level, isLeaf}
+use Rattle.machine.specs.Record.{wellFormed, linked}
 use Rattle.machine.specs.Table.{View, view}
 use Rattle.machine.specs.Walk.{sought, atLeaf, serveArrival, outranks, settleArrival, arrival, walkTo, walkFrom, walkOn}
 use Rattle.grounds.specs.Record.{FareNumber, WellFormed, Unreadable, not-well-formed, ChildUnreadable, missing, there-but}
-use Rattle.grounds.specs.Reads.{SoughtLink, goes-left, otherwise-right, StartUnreadable, the-entry, its-left, WalkUnreadable, the-record-left, the-record-arrived-at, ArrivalOutranks, from-the-entry, on-the-walk}
+use Rattle.grounds.specs.Reads.{SoughtLink, goes-left, otherwise-right, the-entry, its-left, the-record-left, the-record-arrived-at, ArrivalOutranks, from-the-entry, on-the-walk}
 use Rattle.grounds.specs.Step.{PhaseDamaged, record-unreadable, arrival-outranks, before-the-test, after-the-test}
-use Rattle.grounds.proofs.Says.{Says, false-if, Denies, says-struck, says-eq, says-lt}
+use Rattle.grounds.proofs.Says.{says-struck, says-eq, says-lt}
 use Rattle.grounds.proofs.Falls.{Falls, serves, strikes, passes, if-falls}
 use Rattle.grounds.proofs.Records.{says-formed, denies-unreadable, denies-child}
 use Rattle.grounds.proofs.Four.{plainAnswers, numberTurn, Hurts, falls-as, either-falls}

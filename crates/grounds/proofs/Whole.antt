@@ -1,9 +1,9 @@
 -- Tidy, figures and list: each refusal is given exactly when its ground holds and no earlier one does.
-use Prim.Native.Nat.{ℕ, _*_, _≤_, _<_}
-use mathlib.Core.Path.{_≡_, refl, sym}
-use mathlib.Core.Bool.{Bool, not}
+use Prim.Native.Nat.{ℕ, _*_}
+use mathlib.Core.Path.{_≡_, refl}
+use mathlib.Core.Bool.{not}
 use mathlib.Core.List.{List, [], _∷_}
-use mathlib.Core.Logic.{_⊎_, inl, inr, _↔_}
+use mathlib.Core.Logic.{inl}
 use native.Mathlib.Omega.{arith}
 use lib.Dec.{ltb}
 use lib.ListN.{length}
@@ -15,7 +15,7 @@ use Rattle.machine.specs.Table.{view, slots}
 use Rattle.machine.specs.State.{sound}
 use Rattle.machine.specs.Reach.{Tree, Reached, hurt, reached, reach, countFares}
 use Rattle.machine.specs.Calls.{Listed, tidyReached, tidyOf, figuresReached, figuresOf, listReached, listOf}
-use Rattle.grounds.specs.Order.{Refusal, Among, Ruled}
+use Rattle.grounds.specs.Order.{Refusal, Ruled}
 use Rattle.grounds.specs.State.{CountsDamaged}
 use Rattle.grounds.specs.Calls.{refuse}
 use Rattle.grounds.specs.Ways.{ReachDamaged, Fares, RoomLentShort}

@@ -1,5 +1,5 @@
 -- QUANTITIES, in document 01's words: what a record must be.
-use Prim.Native.Nat.{ℕ, _+_, _≤_, _<_}
+use Prim.Native.Nat.{ℕ, _≤_, _<_}
 use mathlib.Core.Path.{_≡_}
 use mathlib.Core.Logic.{_⊎_, _↔_, _≢_}
 use Rattle.terms.specs.declared.Rec.{Rec}

@@ -3,17 +3,15 @@ use Prim.Native.Nat.{ℕ, zero, suc, _+_, _*_, _≤_, _<_}
 use mathlib.Core.Path.{_≡_}
 use mathlib.Core.List.{List}
 use mathlib.Core.Logic.{_⊎_, _≢_}
-use lib.ListN.{length, getD}
+use lib.ListN.{length}
 use Rattle.terms.specs.declared.Job.{Job}
 use Rattle.terms.specs.declared.Operation.{Operation}
-use Rattle.terms.specs.declared.Operation.the-variants.{LookUp, PutIn, TakeOut}
+use Rattle.terms.specs.declared.Operation.the-variants.{LookUp, TakeOut}
 use Rattle.terms.specs.declared.Goal.the-variants.{Settle}
-use Rattle.terms.specs.declared.Work.{Work}
 use Rattle.terms.specs.declared.Work.the-variants.{Idle, Busy}
 use Rattle.terms.specs.declared.Phase.{Phase}
-use Rattle.terms.specs.declared.Task.{Task}
 use Rattle.terms.specs.declared.State.{State}
-use Rattle.terms.specs.Task.{idleTask, goalOf}
+use Rattle.terms.specs.Task.{goalOf}
 use Rattle.machine.specs.State.{taskAt}
 use Rattle.grounds.specs.Record.{FareNumber, Price}
 

@@ -2,7 +2,7 @@
 use Prim.Native.Nat.{ℕ}
 use mathlib.Core.List.{List, [], _∷_}
 use Rattle.terms.specs.declared.State.{State}
-use Rattle.machine.specs.Table.{View, view, slots}
+use Rattle.machine.specs.Table.{view, slots}
 use Rattle.grounds.specs.Order.{Refusal}
 use Rattle.grounds.specs.State.{SomeTaskBusy, CountsDamaged}
 use Rattle.grounds.specs.Calls.{refuse, length18}
