@@ -15,6 +15,7 @@ use Rattle.grounds.specs.Order.{Refusal, Given, Among, numbers, Ruled}
 use Rattle.grounds.specs.Calls.{length18, task10, range11, busy12, idle13, counts17, settling6}
 use Rattle.grounds.specs.Step.{step17, limit16, room15, unsettled6}
 use Rattle.grounds.specs.Whole.{some14, whole17, lent15}
+use Rattle.grounds.proofs.Lists.{among-as}
 use Rattle.grounds.proofs.Falls.{without, not-among}
 use Rattle.grounds.proofs.Calls.{reset-ruled, begin-ruled, abandon-ruled}
 use Rattle.grounds.proofs.Steps.{step-ruled}
@@ -24,9 +25,6 @@ use Rattle.grounds.proofs.Whole.{tidy-ruled, figures-ruled, list-ruled}
 abbrev strange : List ℕ → List ℕ → Bool
 strange [] is = true
 strange (k ∷ ks) is = without k is && strange ks is
-
-among-as : (is : List ℕ) (a b : ℕ) → a ≡ b → Among is a → Among is b
-among-as is a b e h = rw e at h
 
 apart-from : (a : ℕ) (is ks : List ℕ) → Among is a → strange ks is ≡ true → ¬ (Among ks a)
 apart-from a is [] h e x = x

@@ -10,6 +10,7 @@ use Rattle.machine.specs.Choice.{ifB}
 use Rattle.machine.proofs.Tests.{both-first, both-second}
 use Rattle.grounds.specs.Order.{Refusal, None, Each, Among, numbers, Ruled}
 use Rattle.grounds.proofs.Says.{Says}
+use Rattle.grounds.proofs.Lists.{among-as, among-left, among-right}
 
 -- the first ground that holds gives its number; where none does the call is served
 pub data Falls (served : List ℕ) (a : ℕ) : List Refusal → Type 1 where
@@ -32,13 +33,6 @@ not-among k [] e h = h
 not-among k (i ∷ is) e (inl q) = eqb-false k i (not-true _ (both-first (not (eqb k i)) _ e)) q
 not-among k (i ∷ is) e (inr h) = not-among k is (both-second (not (eqb k i)) _ e) h
 
-among-as : (is : List ℕ) (a b : ℕ) → a ≡ b → Among is a → Among is b
-among-as is a b e h = rw e at h
-
-among-second : (is js : List ℕ) (a : ℕ) → Among js a → Among (is ++ js) a
-among-second [] js a h = h
-among-second (i ∷ is) js a h = inr (among-second is js a h)
-
 module _ (served : List ℕ) (a : ℕ) where
   pub falls-among : (rs : List Refusal) → Falls served a rs → Among (numbers rs ++ served) a
   falls-among [] (serves h) = h
@@ -55,7 +49,7 @@ module _ (served : List ℕ) (a : ℕ) where
   served-none (r ∷ rs) e (strikes g q) h =
       absurd
       (not-among (r .number) (numbers rs ++ served) (both-first (without (r .number) (numbers rs ++ served)) _ e)
-      (among-second (numbers rs) served (r .number) (among-as served _ _ q h)))
+      (among-right (numbers rs) served (r .number) (among-as served _ _ q h)))
   served-none (r ∷ rs) e (passes g f) h = (g, served-none rs (both-second (without (r .number) (numbers rs ++ served)) _ e) f h)
 
 none-snoc : (before : List Refusal) (r : Refusal) → None before → ¬ (r .ground) → None (before ++ (r ∷ []))
@@ -77,10 +71,6 @@ last-out : (bs : List Refusal) (r : Refusal) → None (bs ++ (r ∷ [])) → ¬ 
 last-out [] r n = n .0
 last-out (b ∷ bs) r n = last-out bs r (n .1)
 
-among-first : (is js : List ℕ) (a : ℕ) → Among is a → Among (is ++ js) a
-among-first (i ∷ is) js a (inl h) = inl h
-among-first (i ∷ is) js a (inr h) = inr (among-first is js a h)
-
 module _ (served : List ℕ) (a : ℕ) where
   each-of : (before rs : List Refusal) → apart rs served ≡ true → None before → Falls served a rs → Each a before rs
   each-of before [] e n f = tt
@@ -89,7 +79,7 @@ module _ (served : List ℕ) (a : ℕ) where
     barred a (before ++ (r ∷ [])) rs (λ h. last-out before r h g)
         (λ h.
         not-among (r .number) (numbers rs ++ served) (both-first (without (r .number) (numbers rs ++ served)) _ e)
-        (among-first (numbers rs) served (r .number) (among-as (numbers rs) _ _ f h))),
+        (among-left (numbers rs) served (r .number) (among-as (numbers rs) _ _ f h))),
   )
   each-of before (r ∷ rs) e n (passes g f) = (
     (

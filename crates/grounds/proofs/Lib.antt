@@ -1,4 +1,5 @@
 pub mod Says
+pub mod Lists
 pub mod Falls
 pub mod Records
 pub mod States
@@ -12,7 +13,6 @@ pub mod Rows
 pub mod Settles
 pub mod Stages
 pub mod Steps
-pub mod Lists
 pub mod Spans
 pub mod Reaches
 pub mod Whole

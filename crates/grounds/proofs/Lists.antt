@@ -7,6 +7,9 @@ use native.Mathlib.Omega.{arith}
 use lib.ListN.{length}
 use Rattle.grounds.specs.Order.{Among, Twice}
 
+pub among-as : (xs : List ℕ) (a b : ℕ) → a ≡ b → Among xs a → Among xs b
+among-as xs a b e h = rw e at h
+
 pub among-left : (xs ys : List ℕ) (a : ℕ) → Among xs a → Among (xs ++ ys) a
 among-left (x ∷ xs) ys a (inl h) = inl h
 among-left (x ∷ xs) ys a (inr h) = inr (among-left xs ys a h)
@@ -43,9 +46,6 @@ cut x (y ∷ ys) (inr h) =
       shorter = let e = c .shorter in omega arith;
       others = λ a d i. elim i [ inl e ↦ inl e | inr j ↦ inr (c .others a d j) ];
     }
-
-among-as : (xs : List ℕ) (a b : ℕ) → a ≡ b → Among xs a → Among xs b
-among-as xs a b e h = rw e at h
 
 -- what is in the second list, each once, is no more than the second list
 pub no-longer : (xs ys : List ℕ) → ¬ (Twice xs) → ((a : ℕ) → Among xs a → Among ys a) → length xs ≤ length ys

@@ -18,7 +18,7 @@ use Rattle.grounds.specs.Ways.{Way, linkOn, Goes, ReachDamaged, not-well
 use Rattle.grounds.proofs.Says.{Denies, denies-not, denies-both, says-struck, unless, says-both, says-eq}
 use Rattle.grounds.proofs.Records.{says-in-tree, says-leaf, says-formed, says-linked}
 use Rattle.grounds.proofs.Lists.{no-longer}
-use Rattle.grounds.proofs.Spans.{unmarked, unmarked-set, unmarked-all, mark-kept, mark-made, fareSlots, Spans, below, bare, not-entry, sound-here, spans-leaf, spans-node}
+use Rattle.grounds.proofs.Spans.{unmarked, unmarked-set, unmarked-all, mark-kept, mark-made, fareSlots, Spans, below, bare, two-links, spans-leaf, spans-node}
 
 -- hurt is nothing reached
 abbrev isHurt : Reached → Bool
@@ -178,15 +178,7 @@ module _ (n : ℕ) (t : List ℕ) where
       (gas : unmarked marks < suc g) (ok : reachable n (view n t) marks s ≡ true) (inner : isLeaf (view n t s) ≡ false)
     where
       links : (view n t s .left ≢ 0) × (view n t s .right ≢ 0)
-      links =
-          elim (sound-here n t marks s long ok .0 .shape) [
-            | inl h ↦ absurd (not-entry n t marks s long ok (h .0))
-            | inr h ↦
-                elim (h .1) [
-                  | inl i ↦ absurd (says-leaf (view n t s) .fails inner (i .0))
-                  | inr i ↦ (i .left-link .0, i .right-link .0)
-                ]
-          ]
+      links = two-links n t marks s long ok inner
 
       to-left : Goes (view n t) 0 (cur ++ (true ∷ [])) (view n t s .left)
       to-left = along (view n t) 0 s (view n t s .left) cur (true ∷ []) way (links .0, refl)

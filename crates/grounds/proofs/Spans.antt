@@ -122,6 +122,18 @@ module _ (n : ℕ) (t : List ℕ) where
     less : unmarked (set marks s 1) ≤ unmarked marks
     less = let e = unmarked-set marks s below bare in omega arith
 
+    -- both links of an inner record are there
+    pub two-links : isLeaf (view n t s) ≡ false → (view n t s .left ≢ 0) × (view n t s .right ≢ 0)
+    two-links inner =
+        elim (sound-here .0 .shape) [
+          | inl h ↦ absurd (not-entry (h .0))
+          | inr h ↦
+              elim (h .1) [
+                | inl i ↦ absurd (says-leaf (view n t s) .fails inner (i .0))
+                | inr i ↦ (i .left-link .0, i .right-link .0)
+              ]
+        ]
+
     -- a leaf
     module _ (lf : isLeaf (view n t s) ≡ true) where
       no-way : (b : Bool) → linkOn b (view n t s) ≢ 0 → ⊥
@@ -211,25 +223,13 @@ module _ (n : ℕ) (t : List ℕ) where
         node-once (true ∷ w) (false ∷ u) x g k = absurd (not-both w u x (g .1) (k .1))
         node-once (false ∷ w) (true ∷ u) x g k = absurd (not-both u w x (k .1) (g .1))
 
-        -- both links are there
-        pub two-links : (view n t s .left ≢ 0) × (view n t s .right ≢ 0)
-        two-links =
-            elim (sound-here .0 .shape) [
-              | inl h ↦ absurd (not-entry (h .0))
-              | inr h ↦
-                  elim (h .1) [
-                    | inl i ↦ absurd (says-leaf (view n t s) .fails inner (i .0))
-                    | inr i ↦ (i .left-link .0, i .right-link .0)
-                  ]
-            ]
-
         node-made : (x : ℕ) → ¬ (getD two x 0 ≡ 0) → (¬ (getD marks x 0 ≡ 0)) ⊎ ((w : Way) × Goes (view n t) s w x)
         node-made x h =
             elim (r .made x h) [
-              | inr g ↦ inr (false ∷ g .0, (two-links .1, g .1))
+              | inr g ↦ inr (false ∷ g .0, (two-links inner .1, g .1))
               | inl i ↦
                   elim (l .made x i) [
-                    | inr g ↦ inr (true ∷ g .0, (two-links .0, g .1))
+                    | inr g ↦ inr (true ∷ g .0, (two-links inner .0, g .1))
                     | inl j ↦ elim (mark-made marks s x j) [ inl e ↦ inr ([], sym e) | inr k ↦ inl k ]
                   ]
             ]
@@ -237,8 +237,8 @@ module _ (n : ℕ) (t : List ℕ) where
         node-fare : (x : ℕ) → Among (fareSlots tl ++ fareSlots tr) x → (w : Way) × Goes (view n t) s w x × Fare (view n t x)
         node-fare x h =
             elim (among-either (fareSlots tl) (fareSlots tr) x h) [
-              | inl i ↦ (let f = l .fare-in x i in (true ∷ f .0, (two-links .0, f .1), f .2))
-              | inr i ↦ (let f = r .fare-in x i in (false ∷ f .0, (two-links .1, f .1), f .2))
+              | inl i ↦ (let f = l .fare-in x i in (true ∷ f .0, (two-links inner .0, f .1), f .2))
+              | inr i ↦ (let f = r .fare-in x i in (false ∷ f .0, (two-links inner .1, f .1), f .2))
             ]
 
         fare-node : (w : Way) (x : ℕ) → Goes (view n t) s w x → Fare (view n t x) → Among (fareSlots tl ++ fareSlots tr) x

@@ -69,12 +69,12 @@ pub record AsNoted (r : Rec) (l : Links) : Type 0 where
   pub left-as-noted : r .left ≡ l .left
   pub right-as-noted : r .right ≡ l .right
 
--- a record in slot s of a table of n slots: "missing, outside the table or not well formed"
+-- a remembered record is ".. outside the table or not well formed"; a grandparent that is not there stands outside every table
 pub data Unreadable (v : View) (n s : ℕ) : Type 0 where
   outside-the-table : n ≤ s → Unreadable v n s
   not-well-formed : ¬ (WellFormed n s (v s)) → Unreadable v n s
 
--- a record that a link leads to is missing too where the link is 0: "slot 0 is the entry and is nobody's child"
+-- a record that a link leads to is "missing" too where the link is 0: "slot 0 is the entry and is nobody's child"
 pub data ChildUnreadable (v : View) (n s : ℕ) : Type 0 where
   missing : s ≡ 0 → ChildUnreadable v n s
   there-but : Unreadable v n s → ChildUnreadable v n s

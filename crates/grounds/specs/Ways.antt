@@ -14,6 +14,7 @@ use Rattle.grounds.specs.Record.{NoLinks, WellFormed, Sentinel}
 abbrev pub Way : Type 0
 Way = List Bool
 
+-- the link on a side
 abbrev pub linkOn : Bool → Rec → ℕ
 linkOn true r = r .left
 linkOn false r = r .right
