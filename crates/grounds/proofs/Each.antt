@@ -1,4 +1,5 @@
--- EACH CALL AND EACH REFUSAL: it is given exactly when its ground holds and none of the earlier grounds does; the others are never given.
+-- EACH CALL AND EACH REFUSAL: given exactly when its ground holds and none of the earlier ones does. Then all answers of the call, and the
+-- refusals that it never gives.
 use Prim.Native.Nat.{ℕ}
 use mathlib.Core.Path.{_≡_, refl}
 use mathlib.Core.Bool.{Bool, true, _&&_}
@@ -42,6 +43,9 @@ module _ (t : List ℕ) (st : State) where
   pub reset-18 : Given reset [] (length18 t)
   reset-18 = reset-ruled t st .each .0
 
+  pub reset-answers : Among (18 ∷ 0 ∷ []) reset
+  reset-answers = reset-ruled t st .total
+
   pub reset-never : ¬ (Among (10 ∷ 11 ∷ 12 ∷ 13 ∷ 14 ∷ 15 ∷ 16 ∷ 17 ∷ 19 ∷ []) reset)
   reset-never = never (10 ∷ 11 ∷ 12 ∷ 13 ∷ 14 ∷ 15 ∷ 16 ∷ 17 ∷ 19 ∷ []) (reset-ruled t st) refl
 
@@ -64,6 +68,9 @@ module _ (t : List ℕ) (st : State) where
 
     pub begin-17 : Given begin (length18 t ∷ task10 i ∷ range11 o j ∷ busy12 st i ∷ []) (counts17 st)
     begin-17 = begin-ruled t st i o j .each .1 .1 .1 .1 .0
+
+    pub begin-answers : Among (18 ∷ 10 ∷ 11 ∷ 12 ∷ 17 ∷ 0 ∷ []) begin
+    begin-answers = begin-ruled t st i o j .total
 
     pub begin-never : ¬ (Among (13 ∷ 14 ∷ 15 ∷ 16 ∷ 19 ∷ []) begin)
     begin-never = never (13 ∷ 14 ∷ 15 ∷ 16 ∷ 19 ∷ []) (begin-ruled t st i o j) refl
@@ -95,6 +102,9 @@ module _ (t : List ℕ) (st : State) where
     pub step-6 : Given step (length18 t ∷ task10 i ∷ idle13 st i ∷ step17 t st i ∷ limit16 t st i ∷ room15 t st i ∷ []) (unsettled6 t st i)
     step-6 = step-ruled t st i .each .1 .1 .1 .1 .1 .1 .0
 
+    pub step-answers : Among (18 ∷ 10 ∷ 13 ∷ 17 ∷ 16 ∷ 15 ∷ 6 ∷ 0 ∷ 1 ∷ 2 ∷ 3 ∷ 4 ∷ 5 ∷ []) step
+    step-answers = step-ruled t st i .total
+
     pub step-never : ¬ (Among (11 ∷ 12 ∷ 14 ∷ 19 ∷ []) step)
     step-never = never (11 ∷ 12 ∷ 14 ∷ 19 ∷ []) (step-ruled t st i) refl
 
@@ -117,6 +127,9 @@ module _ (t : List ℕ) (st : State) where
     pub abandon-6 : Given abandon (length18 t ∷ task10 i ∷ idle13 st i ∷ counts17 st ∷ []) (settling6 st i)
     abandon-6 = abandon-ruled t st i .each .1 .1 .1 .1 .0
 
+    pub abandon-answers : Among (18 ∷ 10 ∷ 13 ∷ 17 ∷ 6 ∷ 0 ∷ []) abandon
+    abandon-answers = abandon-ruled t st i .total
+
     pub abandon-never : ¬ (Among (11 ∷ 12 ∷ 14 ∷ 15 ∷ 16 ∷ 19 ∷ []) abandon)
     abandon-never = never (11 ∷ 12 ∷ 14 ∷ 15 ∷ 16 ∷ 19 ∷ []) (abandon-ruled t st i) refl
 
@@ -133,6 +146,9 @@ module _ (t : List ℕ) (st : State) where
   pub tidy-17 : Given tidy (length18 t ∷ some14 st ∷ []) (whole17 t st)
   tidy-17 = tidy-ruled t st .each .1 .1 .0
 
+  pub tidy-answers : Among (18 ∷ 14 ∷ 17 ∷ 0 ∷ []) tidy
+  tidy-answers = tidy-ruled t st .total
+
   pub tidy-never : ¬ (Among (10 ∷ 11 ∷ 12 ∷ 13 ∷ 15 ∷ 16 ∷ 19 ∷ []) tidy)
   tidy-never = never (10 ∷ 11 ∷ 12 ∷ 13 ∷ 15 ∷ 16 ∷ 19 ∷ []) (tidy-ruled t st) refl
 
@@ -145,6 +161,9 @@ module _ (t : List ℕ) (st : State) where
 
   pub figures-17 : Given figures (length18 t ∷ []) (whole17 t st)
   figures-17 = figures-ruled t st .each .1 .0
+
+  pub figures-answers : Among (18 ∷ 17 ∷ 0 ∷ []) figures
+  figures-answers = figures-ruled t st .total
 
   pub figures-never : ¬ (Among (10 ∷ 11 ∷ 12 ∷ 13 ∷ 14 ∷ 15 ∷ 16 ∷ 19 ∷ []) figures)
   figures-never = never (10 ∷ 11 ∷ 12 ∷ 13 ∷ 14 ∷ 15 ∷ 16 ∷ 19 ∷ []) (figures-ruled t st) refl
@@ -162,6 +181,9 @@ module _ (t : List ℕ) (st : State) where
 
     pub list-15 : Given list (length18 t ∷ whole17 t st ∷ []) (lent15 t room)
     list-15 = list-ruled t st room .each .1 .1 .0
+
+    pub list-answers : Among (18 ∷ 17 ∷ 15 ∷ 0 ∷ []) list
+    list-answers = list-ruled t st room .total
 
     pub list-never : ¬ (Among (10 ∷ 11 ∷ 12 ∷ 13 ∷ 14 ∷ 16 ∷ 19 ∷ []) list)
     list-never = never (10 ∷ 11 ∷ 12 ∷ 13 ∷ 14 ∷ 16 ∷ 19 ∷ []) (list-ruled t st room) refl
