@@ -1,0 +1,12 @@
+pub mod Order
+pub mod Record
+pub mod State
+pub mod Calls
+pub mod Room
+pub mod Settle
+pub mod Reads
+pub mod Commits
+pub mod Step
+pub mod Ways
+pub mod Whole
+pub mod Program
