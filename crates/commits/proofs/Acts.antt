@@ -4,7 +4,7 @@ use mathlib.Core.Bool.{Bool, false, true}
 use mathlib.Core.List.{[], _∷_}
 use mathlib.Core.Path.{_≡_, refl, sym}
 use native.Mathlib.Omega.{arith}
-use Rattle.commits.proofs.Commits.{Rising, double-surgery, duo, promote-surgery, put-surgery, rotate1-surgery, rotate2-surgery, take-surgery}
+use Rattle.commits.proofs.Commits.{Rising, double-surgery, duo, promote-surgery, put-apart, put-level, put-surgery, rotate1-surgery, rotate2-surgery, take-surgery}
 use Rattle.commits.proofs.Forms.{deep, flat, lean, rank-join, renew, turn}
 use Rattle.commits.proofs.Grounds.{Fits, InnerRank, Two}
 use Rattle.commits.proofs.Shape.{Shape, double-there, double-toward, promote-there, ranked-join, rotate-there, rotate-toward, shape-at, shape-of, take-there}
@@ -12,8 +12,8 @@ use Rattle.commits.proofs.Writes.{fresh, wrote}
 use Rattle.machine.specs.PutIn.{innerOf}
 use Rattle.machine.specs.Table.{View}
 use Rattle.routes.proofs.Level.{lv-eq}
-use Rattle.routes.proofs.Surgery.{Surgery}
-use Rattle.routes.specs.Route.{Has, lv, rankC, route}
+use Rattle.routes.proofs.Surgery.{From, Surgery}
+use Rattle.routes.specs.Route.{Has, levAt, lv, rankC, route}
 use Rattle.trees.proofs.Held.{Carries}
 use Rattle.trees.specs.Order.{high, low}
 use Rattle.trees.specs.Rank.{rank}
@@ -57,21 +57,38 @@ levelPut (rotates1 c b z x x′ z′ kx kz rx j W Y S fx fz xz lx hy hs lim) = f
 levelPut (rotates2 c b z x x′ z′ kx kz rx j W Y S fx fz xz lx hy hw hs up lim) = false
 levelPut (doubles c b z x y y′ x′ z′ kx ky kz rx ry j W A B S fy fx fz up lx ey hw hs lim) = false
 
+-- the number of a put-in
+abbrev pub putNumber : Kind → ℕ
+putNumber (puts-in k p) = k
+putNumber (takes-out k) = 0
+putNumber settles = 0
+
+no-put : {A : Type 0} → _≡_ {A = Bool} false true → A
+no-put e = absurd (let z : _≡_ {A = ℕ} 0 1 = cc in omega arith)
+
+no-level : (q r : ℕ) → lv q r ≡ false → lv q r ≡ true → ⊥
+no-level q r e f = let z : _≡_ {A = ℕ} 0 1 = cc in omega arith
+
 -- what every commit is: a surgery, and ranks, order and labels stay right
-pub record Proper (v : View) (t : Tree) (w : View) (t′ : Tree) : Type 0 where
+-- its new top is level only if the record whose token it takes was, or if a put-in made it so; then the old leaf was on the number's route
+pub record Proper {v : View} {kind : Kind} {t : Tree} {w : View} {t′ : Tree} (act : Act v kind t w t′) : Type 0 where
   pub x : ℕ
   pub y : ℕ
   pub surgery : Surgery v w t t′ x y
   pub shape : Shape t′
+  pub from : levelPut act ≡ false → From t t′ x y
+  pub level : levelPut act ≡ true → (1 ≤ levAt 255 x t′) × Has y (route (putNumber kind) t)
 
 rank-small : (r q : ℕ) → lv r q ≡ true → r ≤ 28 → q < 255
 rank-small r q e h = omega (arith, lv-eq r q e)
 
-pub proper : {v w : View} {kind : Kind} {t t′ : Tree} → Act v kind t w t′ → Carries v t → Shape t → Proper v t w t′
+pub proper : {v w : View} {kind : Kind} {t t′ : Tree} (act : Act v kind t w t′) → Carries v t → Shape t → Proper act
 proper {v} (puts c k p h kh ph rh a l m RK kl pl rl km pm rm fa fl fm al lm r two fits on) i f = record {
   x = a;
   y = h;
   surgery = put-surgery v c h kh ph rh a l m km RK kl pl rl km pm rm i fa fl fm al lm (fits .low-apart) (fits .high-apart);
+  from = λ e. put-apart v c h kh ph rh a l m km RK kl pl rl km pm rm i fa fl fm al lm (fits .low-apart) (fits .high-apart) (no-level (rankC c) RK e);
+  level = λ e. (put-level v c h kh ph rh a l m km RK kl pl rl km pm rm i fa fl fm al lm e, on);
   shape = shape-of c (leaf h kh ph rh) _ f (fits .there);
 }
 proper {v} (takes c b p kp rp l kl pl rl s′ S free fare) i f =
@@ -81,6 +98,8 @@ proper {v} (takes c b p kp rp l kl pl rl s′ S free fare) i f =
       x = s′;
       y = root S;
       surgery = take-surgery v c b p kp rp l kl pl rl s′ S i free (r .1) (omega (arith, t .under, rank-join b p kp rp (leaf l kl pl rl) S)) .0;
+      from = λ e. take-surgery v c b p kp rp l kl pl rl s′ S i free (r .1) (omega (arith, t .under, rank-join b p kp rp (leaf l kl pl rl) S)) .1;
+      level = no-put;
       shape = shape-of c _ _ f (take-there b c p kp rp l kl pl rl s′ S t);
     }
 proper {v} (promotes c b z z′ key r X S free lx near up lim) i f =
@@ -89,6 +108,8 @@ proper {v} (promotes c b z z′ key r X S free lx near up lim) i f =
       x = z′;
       y = root X;
       surgery = promote-surgery v c b z z′ key r X S i free lx (ranked-join b z key r X S (t .ranks) .1) .0;
+      from = λ e. promote-surgery v c b z z′ key r X S i free lx (ranked-join b z key r X S (t .ranks) .1) .1;
+      level = no-put;
       shape = shape-of c _ _ f (promote-there b c z z′ key r X S up lim t);
     }
 proper {v} (rotates1 c b z x x′ z′ kx kz rx j W Y S fx fz xz lx hy hs lim) i f =
@@ -99,6 +120,8 @@ proper {v} (rotates1 c b z x x′ z′ kx kz rx j W Y S fx fz xz lx hy hs lim) i
       x = x′;
       y = x;
       surgery = rotate1-surgery v c b z x x′ z′ kx kz (suc j) rx rx j W Y S i fx fz xz j (rotate-toward b (low c) (high c) z x kx kz (suc j) rx W Y S (t .within)) lx refl refl refl hy hs .0;
+      from = λ e. rotate1-surgery v c b z x x′ z′ kx kz (suc j) rx rx j W Y S i fx fz xz j (rotate-toward b (low c) (high c) z x kx kz (suc j) rx W Y S (t .within)) lx refl refl refl hy hs .1;
+      level = no-put;
       shape = shape-of c _ _ f (rotate-there b c z x x′ z′ kx kz (suc j) rx rx j W Y S (omega (arith, t .under, rank-join b z kz (suc j) (join b x kx rx W Y) S)) (r .0)
           (omega arith) (omega arith) (omega arith) (rank-small (suc j) rx lx lim) (omega arith) (omega arith) (omega arith) t);
     }
@@ -110,6 +133,8 @@ proper {v} (rotates2 c b z x x′ z′ kx kz rx j W Y S fx fz xz lx hy hw hs up 
       x = x′;
       y = x;
       surgery = rotate2-surgery v c b z x x′ z′ kx kz (suc j) rx (suc rx) (suc j) W Y S i fx fz xz j (rotate-toward b (low c) (high c) z x kx kz (suc j) rx W Y S (t .within)) lx refl refl refl hy hw .0;
+      from = λ e. rotate2-surgery v c b z x x′ z′ kx kz (suc j) rx (suc rx) (suc j) W Y S i fx fz xz j (rotate-toward b (low c) (high c) z x kx kz (suc j) rx W Y S (t .within)) lx refl refl refl hy hw .1;
+      level = no-put;
       shape = shape-of c _ _ f (rotate-there b c z x x′ z′ kx kz (suc j) rx (suc rx) (suc j) W Y S (omega arith) (omega arith) (omega arith) (omega arith) (r .1)
           (omega arith) (omega arith) (omega arith) (omega arith) t);
     }
@@ -120,5 +145,7 @@ proper {v} (doubles c b z x y y′ x′ z′ kx ky kz rx ry j W A B S fy fx fz u
       x = y′;
       y = x;
       surgery = double-surgery v c b z x y y′ x′ z′ kx ky kz (suc j) rx ry j W A B S i fy fx fz up (o .0) (o .1) lx ey hw hs .0;
+      from = λ e. double-surgery v c b z x y y′ x′ z′ kx ky kz (suc j) rx ry j W A B S i fy fx fz up (o .0) (o .1) lx ey hw hs .1;
+      level = no-put;
       shape = shape-of c _ _ f (double-there b c z x y y′ x′ z′ kx ky kz (suc j) rx ry j W A B S refl (sym (lv-eq (suc j) rx lx)) ey hw hs lim t);
     }

@@ -77,6 +77,14 @@ other-rank k r r′ (inr e) h lo hi = inr (e .0, lo, hi)
 pub shape-at : (c : Ctx) (t : Tree) → Shape (plug c t) → There c t
 shape-at c t s = let g = ranked-apart c t (s .ranked) (s .limit) in record { under = g .0; ranks = g .1; within = ordered-apart c t (s .order) .1; labels = marked-apart c t (s .marks) .0 }
 
+-- the rank above a place
+ranks-limit : (c : Ctx) → RanksC c → rankC c ≤ 255
+ranks-limit top h = omega arith
+ranks-limit (hole b s k rk u c) h = omega (arith, h .0, ranks-limit c (h .3))
+
+pub shape-limit : (c : Ctx) (t : Tree) → Shape (plug c t) → rankC c ≤ 255
+shape-limit c t s = ranks-limit c (ranked-apart c t (s .ranked) (s .limit) .2)
+
 -- the labels around a place
 pub shape-marks : (c : Ctx) (t : Tree) → Shape (plug c t) → MarkedC c
 shape-marks c t s = marked-apart c t (s .marks) .1

@@ -135,12 +135,12 @@ module _ (st : State) (a : Account) (i : ℕ) where
   left-6 = refl
 
   -- the open operation of a busy task, by its goal
-  by-serve : (o : Open) (j : Job) (f : Phase) (op : Operation) → Agree o (Busy j f) → goalOf f ≡ Serve op → o ≡ begun op j
+  pub by-serve : (o : Open) (j : Job) (f : Phase) (op : Operation) → Agree o (Busy j f) → goalOf f ≡ Serve op → o ≡ begun op j
   by-serve shut j f op g e = absurd g
   by-serve (begun o′ j′) j f op g e = let q : Serve o′ ≡ Serve op = sym (g .1) ∙ e in let r : o′ ≡ op = cc in ap₂ begun r (sym (g .0))
   by-serve unsettled j f op g e = absurd (let q : Settle ≡ Serve op = sym g ∙ e in let z : _≡_ {A = ℕ} 0 1 = cc in omega arith)
 
-  by-settle : (o : Open) (j : Job) (f : Phase) → Agree o (Busy j f) → goalOf f ≡ Settle → o ≡ unsettled
+  pub by-settle : (o : Open) (j : Job) (f : Phase) → Agree o (Busy j f) → goalOf f ≡ Settle → o ≡ unsettled
   by-settle shut j f g e = absurd g
   by-settle (begun o′ j′) j f g e = absurd (let q : Serve o′ ≡ Settle = sym (g .1) ∙ e in let z : _≡_ {A = ℕ} 0 1 = cc in omega arith)
   by-settle unsettled j f g e = refl

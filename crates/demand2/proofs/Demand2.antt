@@ -5,16 +5,17 @@ use lib.ListN.{length}
 use mathlib.Core.List.{List, [], _∷_}
 use mathlib.Core.Path.{_∙_, _≡_, ap, refl, subst, sym}
 use native.Mathlib.Omega.{arith}
-use Rattle.demand2.proofs.Calls.{keeps-abandon, keeps-begin, keeps-figures, keeps-list, keeps-reset, keeps-tidy, reach-is, reset-is, stands-fresh, the-seen}
+use Rattle.demand2.proofs.Fresh.{reset-is, stands-fresh}
+use Rattle.demand2.proofs.Happens.{happens, reach-is, the-seen}
+use Rattle.demand2.proofs.Keeps.{stands-on}
 use Rattle.demand2.proofs.Lengths.{fits-of}
 use Rattle.demand2.proofs.Stands.{Stands, fits-is, sound-is}
-use Rattle.demand2.proofs.Steps.{keeps-step}
 use Rattle.demand2.specs.Demand2.{Demand-2, Kept, heldAt}
 use Rattle.fares.proofs.Lists.{tree-sorted}
 use Rattle.fares.proofs.Whole.{fare-count, fare-list, written-long}
 use Rattle.fares.specs.Read.{read}
 use Rattle.history.specs.Fares.{Sorted}
-use Rattle.history.specs.History.{Ask, abandon, begin, figures, list, reset, step, tidy}
+use Rattle.history.specs.History.{Ask}
 use Rattle.history.specs.Ledger.{Fare, Point, advance, goes, history, opening, started, written}
 use Rattle.history.specs.Machine.{real}
 use Rattle.machine.specs.Calls.{listOf, listReached}
@@ -26,13 +27,7 @@ use Rattle.trees.specs.Order.{ALL}
 
 -- every call keeps it
 pub keeps : {p : Point} → Stands p → (c : Ask) → Stands (advance real p c)
-keeps s reset = keeps-reset s
-keeps s (begin i o j) = keeps-begin s i o j
-keeps s (step i) = keeps-step s i
-keeps s (abandon i) = keeps-abandon s i
-keeps s tidy = keeps-tidy s
-keeps s figures = keeps-figures s
-keeps s (list room) = keeps-list s room
+keeps s c = stands-on s (happens s c)
 
 pub keeps-all : {p : Point} → Stands p → (cs : List Ask) → Stands (goes real p cs)
 unfolding goes

@@ -3,7 +3,8 @@ pub mod Accounts
 pub mod Counts
 pub mod Lengths
 pub mod Stands
-pub mod Calls
-pub mod Steps
+pub mod Fresh
+pub mod Happens
+pub mod Keeps
 pub mod Demand2
 pub mod Wrong

@@ -1,0 +1,1 @@
+// Every level record has an owner. No code.

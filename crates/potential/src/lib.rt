@@ -1,0 +1,1 @@
+// The potential, and what each commit makes of it. No code.
