@@ -104,7 +104,7 @@ module _ (st : State) (a : Account) (i : ℕ) where
   ended TakeOut j x (inl e) = rw e refl
   ended TakeOut j x (inr e) = rw e refl
 
-  not-six : (o : Operation) (x : ℕ) → EndOf o x → one (eqb x 6) ≡ 0
+  pub not-six : (o : Operation) (x : ℕ) → EndOf o x → one (eqb x 6) ≡ 0
   not-six LookUp x (inl e) = rw e refl
   not-six LookUp x (inr e) = rw e refl
   not-six PutIn x (inl e) = rw e refl

@@ -54,7 +54,7 @@ module _ (l n : ℕ) (e : l ≡ n * 6) (least : 8 ≤ n) (most : n ≤ 4096) whe
   abbrev first : Tree
   first = leaf 1 topNumber 0 255
 
-  fresh-carries : Carries (view n (emptyTable l)) first
+  pub fresh-carries : Carries (view n (emptyTable l)) first
   fresh-carries = record {
     entry = at-entry;
     holds = at-leaf;

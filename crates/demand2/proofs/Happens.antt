@@ -99,7 +99,7 @@ module _ {p : Point} (s : Stands p) where
         → Happens (record { table = t; state = withTask st i (taskBegun o j); account = withOpen a i (begun o j) })
     abandons : (i : ℕ) (j : Job) (f : Phase) (o : Operation) → i < 8 → taskAt st i .work ≡ Busy j f → goalOf f ≡ Serve o
         → Happens (record { table = t; state = withTask st i idleTask; account = withOpen a i shut })
-    leaves : (i : ℕ) (j : Job) (f : Phase) → i < 8 → taskAt st i .work ≡ Busy j f → goalOf f ≡ Settle
+    leaves-settling : (i : ℕ) (j : Job) (f : Phase) → i < 8 → taskAt st i .work ≡ Busy j f → goalOf f ≡ Settle
         → Happens (record { table = t; state = counted st i idleTask 0 1; account = lostOne a i })
     tidies : busyTasks (st .tasks) 8 ≡ 0 → Happens (record { table = tidied; state = st; account = a })
     steps : (i : ℕ) (j : Job) (f : Phase) (d : Did) → i < 8 → taskAt st i .work ≡ Busy j f → Does (view (s .n) t) (s .tree) (st .m) j f d → Within (s .n) (d .writes)
@@ -158,7 +158,7 @@ module _ {p : Point} (s : Stands p) where
   abandon-yes i lt (begun o j) Idle g at-a at-st e = absurd g
   abandon-yes i lt (begun o j) (Busy j′ f) g at-a at-st e = so (rw (g .1, at-a) (abandons i j′ f o lt at-st (g .1)))
   abandon-yes i lt unsettled Idle g at-a at-st e = absurd g
-  abandon-yes i lt unsettled (Busy j f) g at-a at-st e = so (rw (g, at-a) (leaves i j f lt at-st g))
+  abandon-yes i lt unsettled (Busy j f) g at-a at-st e = so (rw (g, at-a) (leaves-settling i j f lt at-st g))
 
   abandon-happens : (i : ℕ) → Happens (advance real p (abandon i))
   unfolding advance abandonOf

@@ -9,7 +9,7 @@ use native.Mathlib.Omega.{arith}
 use Rattle.demand2.proofs.Accounts.{Agree, booked, by-settle}
 use Rattle.demand2.proofs.After.{After, newly, step-after, taskAfter}
 use Rattle.demand2.proofs.Fresh.{stands-fresh}
-use Rattle.demand2.proofs.Happens.{Happens, abandons, all-idle, begins, leaves, nothing, resets, steps, the-seen, tidied, tidies}
+use Rattle.demand2.proofs.Happens.{Happens, abandons, all-idle, begins, leaves-settling, nothing, resets, steps, the-seen, tidied, tidies}
 use Rattle.demand2.proofs.Stands.{Stands, restands, unchanged}
 use Rattle.fares.proofs.Tidied.{swept, swept-carries}
 use Rattle.history.specs.Ledger.{Account, Open, Point, begun, lostOne, oneUnsettled, openAt, shut, stepped, unsettled, withOpen}
@@ -113,6 +113,6 @@ module _ {p : Point} (s : Stands p) where
   stands-on resets = stands-fresh (length t) (s .n) (s .size) (s .least) (s .most)
   stands-on (begins i o j lt fk fp idle) = begin-stands i o j lt fk fp idle
   stands-on (abandons i j f o lt is g) = abandon-stands i lt
-  stands-on (leaves i j f lt is g) = leave-stands i j f lt is g
+  stands-on (leaves-settling i j f lt is g) = leave-stands i j f lt is g
   stands-on (tidies e) = tidy-stands e
   stands-on (steps i j f d lt is does inside) = step-stands i j f d lt is does inside

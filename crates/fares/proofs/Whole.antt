@@ -130,7 +130,7 @@ written-long [] = refl
 written-long (x ∷ xs) = omega (arith, written-long xs)
 
 -- a leaf is a fare where it is no sentinel
-fare-test : (k pr rk : ℕ) → LeafMarks k pr rk → isFare (leafRec k pr rk) ≡ not (eqb rk 255)
+pub fare-test : (k pr rk : ℕ) → LeafMarks k pr rk → isFare (leafRec k pr rk) ≡ not (eqb rk 255)
 unfolding isFare isLeaf sentinel
 fare-test k pr rk (inl m) = rw (m .0, m .1, m .2) refl
 fare-test k pr rk (inr m) = rw (ne-eqb k topNumber (λ e. omega (arith, m .0)), m .2) refl

@@ -3,3 +3,4 @@ pub mod Counting
 pub mod Search
 pub mod Mirror
 pub mod Held
+pub mod OneTree

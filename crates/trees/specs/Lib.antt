@@ -3,3 +3,4 @@ pub mod Rank
 pub mod Order
 pub mod Count
 pub mod Marks
+pub mod Ways

@@ -1,0 +1,4 @@
+pub mod Crown
+pub mod Heights
+pub mod Roles
+pub mod Rich

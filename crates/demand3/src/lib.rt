@@ -1,0 +1,1 @@
+// Demand 3 as a theorem. No code.
