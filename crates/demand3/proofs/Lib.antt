@@ -2,3 +2,5 @@ pub mod Crown
 pub mod Heights
 pub mod Roles
 pub mod Rich
+pub mod Open
+pub mod Demand3
