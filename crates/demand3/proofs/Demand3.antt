@@ -63,7 +63,7 @@ module _ {p : Point} (r : Rich p) where
   x : Extra (s .n) (s .tree) p
   x = extra-at r
 
-  figures-reached : figuresOf (p .table) (p .state) ≡ figuresReached (p .table) (p .state) (reached (read (s .tree)) (the-seen s .marks))
+  pub figures-reached : figuresOf (p .table) (p .state) ≡ figuresReached (p .table) (p .state) (reached (read (s .tree)) (the-seen s .marks))
   unfolding figuresOf ifB
   figures-reached = rw (fits-is s, sound-is s) (ap (figuresReached (p .table) (p .state)) (reach-is s))
 

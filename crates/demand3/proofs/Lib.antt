@@ -4,3 +4,5 @@ pub mod Roles
 pub mod Rich
 pub mod Open
 pub mod Demand3
+pub mod Parts
+pub mod Wrong

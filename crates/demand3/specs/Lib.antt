@@ -1,1 +1,3 @@
 pub mod Demand3
+pub mod Longest
+pub mod Wrong
