@@ -1,6 +1,7 @@
 // The probe: one call after another, each on a table and a state that are handed in (docs/PROBE.md).
 use beginning::abandon;
 use beginning::begin;
+use callfile::operation_of;
 use callfile::price_of;
 use libc::STDIN_FILENO;
 use libc::STDOUT_FILENO;
@@ -10,17 +11,16 @@ use state::number_of;
 use statecode::Row;
 use statecode::row_of;
 use statecode::task_of;
-use statecode::word_at;
 use stepping::step;
 use terms::Answer;
 use terms::Figures;
 use terms::Job;
-use terms::Operation;
 use terms::Out;
 use terms::State;
 use whole::figures;
 use whole::list;
 use whole::tidy;
+use words::four_at;
 ghost use mathlib.Core.Path.{_≡_};
 ghost use Prim.Native.Nat.{_+_, _*_, _≤_, _<_};
 ghost use lib.ListN.{length};
@@ -107,13 +107,13 @@ struct Ask {
 
 fn ask_of(b: &[u8; 28]) -> Ask {
     Ask {
-        call: word_at(b, 0),
-        operation: word_at(b, 4),
-        task: word_at(b, 8),
-        number: word_at(b, 12),
-        price: word_at(b, 16),
-        room: word_at(b, 20),
-        length: word_at(b, 24),
+        call: four_at(b, 0),
+        operation: four_at(b, 4),
+        task: four_at(b, 8),
+        number: four_at(b, 12),
+        price: four_at(b, 16),
+        room: four_at(b, 20),
+        length: four_at(b, 24),
     }
 }
 
@@ -132,14 +132,6 @@ fn ask_is_call(a: Ask) -> bool {
     }
 }
 
-fn operation_of(o: u32) -> Operation {
-    match o {
-        1 => Operation::LookUp,
-        2 => Operation::PutIn,
-        _ => Operation::TakeOut,
-    }
-}
-
 struct GotState {
     fine: bool,
     state: State,
@@ -152,7 +144,7 @@ fn row_at(b: &[u8; 488], i: usize) -> Row
     let mut r = Row { at: [0; 15] };
     let mut k: usize = 0;
     while k < 15 {
-        r.at[k] = word_at(b, 60 * i + 4 * k);
+        r.at[k] = four_at(b, 60 * i + 4 * k);
         k += 1;
     }
     r
@@ -173,8 +165,8 @@ fn state_of(b: &[u8; 488]) -> GotState {
         st.tasks[i] = k;
         i += 1;
     }
-    st.m = word_at(b, 480);
-    st.u = word_at(b, 484);
+    st.m = four_at(b, 480);
+    st.u = four_at(b, 484);
     GotState {
         fine: true,
         state: st,
@@ -239,7 +231,7 @@ fn fill_table(t: &mut [u32], b: &[u8])
     let l = t.len();
     let mut i: usize = 0;
     while i < l {
-        t[i] = word_at(b, 4 * i);
+        t[i] = four_at(b, 4 * i);
         i += 1;
     }
 }

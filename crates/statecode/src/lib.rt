@@ -11,8 +11,6 @@ use terms::State;
 use terms::TakeStage;
 use terms::Task;
 use terms::Work;
-ghost use Prim.Native.Nat.{_+_, _*_, _≤_, _<_};
-ghost use lib.ListN.{length};
 
 // The numbers of one task.
 pub struct Row {
@@ -314,17 +312,4 @@ pub fn row_of(k: Task) -> Row {
         Work::Idle => Row { at: [0; 15] },
         Work::Busy(j, f) => phase_row(j, f),
     }
-}
-
-fn wide(x: u8) -> u32
-    ensures { λ r. ⌜ r < 256 ⌝ }
-{
-    x as u32
-}
-
-// A number of four bytes, low byte first.
-pub fn word_at(b: &[u8], i: usize) -> u32
-    requires { ⌜ (i + 4 ≤ length (now b)) × (i < 1000000) ⌝ }
-{
-    wide(b[i]) + 256 * wide(b[i + 1]) + 65536 * wide(b[i + 2]) + 16777216 * wide(b[i + 3])
 }

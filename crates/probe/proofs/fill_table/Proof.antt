@@ -5,7 +5,7 @@ use Prim.Native.Nat.{_-_}
 use mathlib.Core.Path.{_≡_}
 use Rattle.probe.proofs.fill_table.Statement.{statement}
 use Rattle.probe.proofs.fill_table.Tie as tie
-use Rattle.statecode.proofs.word_at.Reads as word-at-reads
+use Rattle.words.proofs.four_at.Reads as four-at-reads
 
 abbrev Inv-loop : tie.InvT-loop
 Inv-loop t₀ b l i₀ t i = (length t ≡ length t₀) × (length t ≡ l)
@@ -16,11 +16,11 @@ abbrev μ-loop : tie.MeasureT-loop
 loop-holds : tie.Need-loop-holds Inv-loop μ-loop
 loop-holds c = (search needs, search needs)
 
-mul-word-at : tie.Need-mul-word-at Inv-loop μ-loop
-mul-word-at c = omega arith
+mul-four-at : tie.Need-mul-four-at Inv-loop μ-loop
+mul-four-at c = omega arith
 
-word-at-requires : tie.Need-word-at-requires Inv-loop μ-loop
-word-at-requires c κs = (omega arith, omega arith)
+four-at-requires : tie.Need-four-at-requires Inv-loop μ-loop
+four-at-requires c κs = (omega arith, omega arith)
 
 mul-t : tie.Need-mul-t Inv-loop μ-loop
 mul-t c = omega arith
@@ -50,8 +50,8 @@ fill-table-spec =
     Inv-loop
     μ-loop
     loop-holds
-    mul-word-at
-    word-at-requires
+    mul-four-at
+    four-at-requires
     mul-t
     slice-write-t
     add-i

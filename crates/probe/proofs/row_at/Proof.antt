@@ -3,7 +3,7 @@ use native.Mathlib.Omega.{arith}
 use Prim.Native.Nat.{_-_}
 use Rattle.probe.proofs.row_at.Statement.{statement}
 use Rattle.probe.proofs.row_at.Tie as tie
-use Rattle.statecode.proofs.word_at.Reads as word-at-reads
+use Rattle.words.proofs.four_at.Reads as four-at-reads
 
 abbrev Inv-loop : tie.InvT-loop
 Inv-loop b i r₀ k₀ r k = Unit {0}
@@ -14,17 +14,17 @@ abbrev μ-loop : tie.MeasureT-loop
 loop-holds : tie.Need-loop-holds Inv-loop μ-loop
 loop-holds c = tt
 
-mul-word-at : tie.Need-mul-word-at Inv-loop μ-loop
-mul-word-at c = omega arith
+mul-four-at : tie.Need-mul-four-at Inv-loop μ-loop
+mul-four-at c = omega arith
 
-mul-word-at-2 : tie.Need-mul-word-at-2 Inv-loop μ-loop
-mul-word-at-2 c = omega arith
+mul-four-at-2 : tie.Need-mul-four-at-2 Inv-loop μ-loop
+mul-four-at-2 c = omega arith
 
-add-word-at : tie.Need-add-word-at Inv-loop μ-loop
-add-word-at c = omega arith
+add-four-at : tie.Need-add-four-at Inv-loop μ-loop
+add-four-at c = omega arith
 
-word-at-requires : tie.Need-word-at-requires Inv-loop μ-loop
-word-at-requires c κs = (search needs, omega arith)
+four-at-requires : tie.Need-four-at-requires Inv-loop μ-loop
+four-at-requires c κs = (search needs, omega arith)
 
 mul-r : tie.Need-mul-r Inv-loop μ-loop
 mul-r c = omega arith
@@ -51,10 +51,10 @@ row-at-spec =
     Inv-loop
     μ-loop
     loop-holds
-    mul-word-at
-    mul-word-at-2
-    add-word-at
-    word-at-requires
+    mul-four-at
+    mul-four-at-2
+    add-four-at
+    four-at-requires
     mul-r
     element-write-r
     add-k

@@ -6,7 +6,7 @@ use Rattle.probe.proofs.state_of.Tie as tie
 use Rattle.probe.proofs.row_at.Reads as row-at-reads
 use Rattle.state.proofs.fresh_state.Reads as fresh-state-reads
 use Rattle.statecode.proofs.task_of.Reads as task-of-reads
-use Rattle.statecode.proofs.word_at.Reads as word-at-reads
+use Rattle.words.proofs.four_at.Reads as four-at-reads
 
 abbrev Inv-loop : tie.InvT-loop
 Inv-loop b st₀ i₀ st i = Unit {0}
@@ -44,11 +44,11 @@ loop-less c = omega arith
 loop-again : tie.Need-loop-again Inv-loop μ-loop
 loop-again c = tt
 
-word-at-requires : tie.Need-word-at-requires Inv-loop μ-loop
-word-at-requires c κs = search needs
+four-at-requires : tie.Need-four-at-requires Inv-loop μ-loop
+four-at-requires c κs = search needs
 
-word-at-requires-2 : tie.Need-word-at-requires-2 Inv-loop μ-loop
-word-at-requires-2 c κs = search needs
+four-at-requires-2 : tie.Need-four-at-requires-2 Inv-loop μ-loop
+four-at-requires-2 c κs = search needs
 
 returns-2 : tie.Need-returns-2 Inv-loop μ-loop
 returns-2 c = search needs
@@ -69,6 +69,6 @@ state-of-spec =
     add-i
     loop-less
     loop-again
-    word-at-requires
-    word-at-requires-2
+    four-at-requires
+    four-at-requires-2
     returns-2)

@@ -1,7 +1,7 @@
 use Rattle.machine.specs.CallFile.{four}
 use borrow.Author.Needs.{needs}
-use Rattle.callfile.proofs.four_at.Statement.{statement}
-use Rattle.callfile.proofs.four_at.Tie as tie
+use Rattle.words.proofs.four_at.Statement.{statement}
+use Rattle.words.proofs.four_at.Tie as tie
 
 shared-slice-read-wide : tie.Need-shared-slice-read-wide
 shared-slice-read-wide c = search needs

@@ -1,8 +1,8 @@
 use Rattle.machine.specs.CallFile.{two}
 use native.Mathlib.Omega.{arith}
 use borrow.Author.Needs.{needs}
-use Rattle.callfile.proofs.two_at.Statement.{statement}
-use Rattle.callfile.proofs.two_at.Tie as tie
+use Rattle.words.proofs.two_at.Statement.{statement}
+use Rattle.words.proofs.two_at.Tie as tie
 
 shared-slice-read-wide : tie.Need-shared-slice-read-wide
 shared-slice-read-wide c = search needs
