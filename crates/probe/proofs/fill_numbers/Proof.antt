@@ -3,8 +3,8 @@ use borrow.Author.Needs.{needs}
 use native.Mathlib.Omega.{arith}
 use Prim.Native.Nat.{_-_}
 use mathlib.Core.Path.{_≡_}
-use Rattle.probe.proofs.fill_table.Statement.{statement}
-use Rattle.probe.proofs.fill_table.Tie as tie
+use Rattle.probe.proofs.fill_numbers.Statement.{statement}
+use Rattle.probe.proofs.fill_numbers.Tie as tie
 use Rattle.words.proofs.four_at.Reads as four-at-reads
 
 abbrev Inv-loop : tie.InvT-loop
@@ -43,8 +43,8 @@ same-length c = c .before .loop .inv .0
 returns : tie.Need-returns Inv-loop μ-loop
 returns c = search needs
 
-pub fill-table-spec : {M : Type 1} → statement M
-fill-table-spec =
+pub fill-numbers-spec : {M : Type 1} → statement M
+fill-numbers-spec =
     tie.close
     (tie.spec
     Inv-loop

@@ -1,0 +1,4 @@
+pub mod Same
+pub mod Inverse
+pub mod Writing
+pub mod Reading
