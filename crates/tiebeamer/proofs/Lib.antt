@@ -1,0 +1,4 @@
+pub mod Priceless
+pub mod Rows
+pub mod Kept
+pub mod Never
