@@ -2,3 +2,4 @@ pub mod Priceless
 pub mod Rows
 pub mod Kept
 pub mod Never
+pub mod Strict
