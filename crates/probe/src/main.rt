@@ -21,7 +21,7 @@ use whole::list;
 use whole::tidy;
 use words::four_at;
 ghost use mathlib.Core.Path.{_≡_};
-ghost use Prim.Native.Nat.{_+_, _*_, _≤_, _<_};
+ghost use Prim.Native.Nat.{_*_, _≤_, _<_};
 ghost use lib.ListN.{length};
 
 fn print_number(n: u32) {

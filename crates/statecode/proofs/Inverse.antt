@@ -1,35 +1,26 @@
 -- Encoding and decoding are inverse to each other.
 use mathlib.Core.Path.{_≡_, refl, sym, ap, subst, _∙_}
-use mathlib.Core.Bool.{Bool, true, false}
+use mathlib.Core.Bool.{true}
 use mathlib.Core.List.{List, [], _∷_, _++_, append-assoc}
-use Prim.Native.Nat.{ℕ, zero, suc, _+_, _*_, _≤_, _<_}
+use Prim.Native.Nat.{ℕ, _*_}
 use native.Mathlib.Omega.{arith}
-use lib.ListN.{length, getD, drop, length-append}
+use lib.ListN.{length, getD, length-append}
 use lib.Seq.{drop-at, getD-at}
-use Rattle.terms.specs.declared.Links.{Links}
-use Rattle.terms.specs.declared.Path.{Path}
-use Rattle.terms.specs.declared.Job.{Job}
-use Rattle.terms.specs.declared.Operation.{Operation}
 use Rattle.terms.specs.declared.Operation.the-variants.{LookUp, PutIn, TakeOut}
 use Rattle.terms.specs.declared.Goal.{Goal}
 use Rattle.terms.specs.declared.Goal.the-variants.{Serve, Settle}
-use Rattle.terms.specs.declared.PutStage.{PutStage}
 use Rattle.terms.specs.declared.PutStage.the-variants.{PutParent, PutLeaf, PutCommit}
-use Rattle.terms.specs.declared.TakeStage.{TakeStage}
 use Rattle.terms.specs.declared.TakeStage.the-variants.{TakeGrand, TakeParent, TakeLeft, TakeRight, TakeCommit}
-use Rattle.terms.specs.declared.SettleStage.{SettleStage}
 use Rattle.terms.specs.declared.SettleStage.the-variants.{SettleGrand, SettleParent, SettleChoose, SettleRotate, SettleDouble}
-use Rattle.terms.specs.declared.Phase.{Phase}
 use Rattle.terms.specs.declared.Phase.the-variants.{Start, Walk, PuttingIn, TakingOut, Settling}
 use Rattle.terms.specs.declared.Work.{Work}
 use Rattle.terms.specs.declared.Work.the-variants.{Idle, Busy}
 use Rattle.terms.specs.declared.Task.{Task}
 use Rattle.terms.specs.declared.State.{State}
 use Rattle.machine.specs.Choice.{ifB}
-use Rattle.machine.specs.State.{freshState}
 use Rattle.machine.proofs.Choice.{if-elim}
 use Rattle.statecode.specs.declared.GotState.{GotState}
-use Rattle.statecode.specs.Code.{goalNumber, goalBy, workRow, rows, encode, putBy, takeBy, settleBy, phaseBy, taskBy, tasksBy, stateBy, isState, got, noState, decode}
+use Rattle.statecode.specs.Code.{goalNumber, goalBy, workRow, rows, encode, putBy, takeBy, settleBy, phaseBy, taskBy, tasksBy, stateBy, isState, got, decode}
 use Rattle.statecode.proofs.Same.{same-self, same-equal}
 
 goal-back : (g : Goal) → goalBy (goalNumber g) ≡ g

@@ -7,7 +7,6 @@ use lib.ListN.{getD, drop}
 use Rattle.terms.specs.declared.Links.{Links}
 use Rattle.terms.specs.declared.Path.{Path}
 use Rattle.terms.specs.declared.Job.{Job}
-use Rattle.terms.specs.declared.Operation.{Operation}
 use Rattle.terms.specs.declared.Operation.the-variants.{LookUp, PutIn, TakeOut}
 use Rattle.terms.specs.declared.Goal.{Goal}
 use Rattle.terms.specs.declared.Goal.the-variants.{Serve, Settle}

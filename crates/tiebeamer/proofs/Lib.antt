@@ -3,3 +3,4 @@ pub mod Rows
 pub mod Kept
 pub mod Never
 pub mod Strict
+pub mod Unchanged

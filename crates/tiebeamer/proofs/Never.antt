@@ -1,11 +1,10 @@
 -- The refusal of numbers that are no state is never given on a state that the calls made.
-use mathlib.Core.Path.{_≡_, refl, sym, ap, _∙_}
-use mathlib.Core.Bool.{Bool, true, false, not, _&&_}
+use mathlib.Core.Path.{_≡_, refl, ap}
+use mathlib.Core.Bool.{Bool, true, false, not}
 use mathlib.Core.List.{List, [], _∷_}
 use Prim.Native.Nat.{ℕ, _≤_}
 use native.Mathlib.Omega.{arith}
-use lib.ListN.{length, replicate}
-use Rattle.terms.specs.declared.State.{State}
+use lib.ListN.{replicate}
 use Rattle.terms.specs.declared.Answer.{Answer}
 use Rattle.terms.specs.declared.Answer.the-variants.{Accepted, Found, NotHeld, PutSettled, HeldAlready, TakenOut, PutUnsettled, TaskNumber, OutOfRange, TaskBusy, TaskIdle, SomeBusy, NoRoom, Limit, Damaged, Length, BadRecord}
 use Rattle.terms.specs.declared.Report.{Report}
@@ -136,7 +135,7 @@ unfolding stateMade
 made-fine [] = zeros-fine
 made-fine (a ∷ past) = left-fine a (stateMade past) (made-fine past)
 
-answers-fine : (a : Asked) (w : List ℕ) → Fine w → answerTo a w ≡ 50 → ⊥
+pub answers-fine : (a : Asked) (w : List ℕ) → Fine w → answerTo a w ≡ 50 → ⊥
 unfolding answerTo
 answers-fine (reset t) w f = reset-good t w f .1
 answers-fine (begin t i o n p) w f = begin-good t w f i o n p .1

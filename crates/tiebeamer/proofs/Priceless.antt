@@ -1,6 +1,5 @@
 -- "Price is 0 in every answer but 1": reset, begin, abandon and tidy have none to hand back.
 use mathlib.Core.Path.{_≡_, refl}
-use mathlib.Core.Bool.{Bool}
 use mathlib.Core.List.{List}
 use Prim.Native.Nat.{ℕ}
 use Rattle.terms.specs.declared.Job.{Job}

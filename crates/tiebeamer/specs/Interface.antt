@@ -1,9 +1,8 @@
 -- THE CALLS FOR C AND RUST: table and state as numbers, an answer as its number (docs/INTERFACE.md).
 use Prim.Native.Nat.{ℕ}
-use mathlib.Core.Bool.{Bool, _&&_, not}
+use mathlib.Core.Bool.{_&&_, not}
 use mathlib.Core.List.{List}
 use lib.Dec.{leb, eqb}
-use Rattle.terms.specs.declared.State.{State}
 use Rattle.terms.specs.declared.Report.{Report}
 use Rattle.machine.specs.Choice.{ifB}
 use Rattle.machine.specs.Answers.{numberOf, priceOf}

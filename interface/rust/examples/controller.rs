@@ -9,6 +9,7 @@ const SLOTS: usize = 64;
 type Job = (Operation, u32);
 
 /// Task 0 is the tariff loader, 1 the panel, 2 the coin unit, 3 the printer; 4 to 7 are a second group of the same four.
+#[rustfmt::skip]
 const USERS: [(&str, [Job; 4]); 8] = [
     ("loader", [(PutIn(250), 4711), (PutIn(180), 1200), (TakeOut, 4711), (PutIn(275), 4711)]),
     ("panel", [(LookUp, 4711), (LookUp, 1200), (LookUp, 4711), (LookUp, 4711)]),
@@ -62,7 +63,12 @@ impl Controller {
         if answer == Answer::Accepted {
             return true;
         }
-        print!("{}: {} {number}: {}", USERS[task].0, operation_name(operation), answer_name(answer));
+        print!(
+            "{}: {} {number}: {}",
+            USERS[task].0,
+            operation_name(operation),
+            answer_name(answer)
+        );
         if let Answer::Found(price) = answer {
             print!(" at {price}");
         }
@@ -76,7 +82,12 @@ impl Controller {
         if answer == Answer::Accepted {
             return true;
         }
-        println!("{}: {} {number}: refused, {}", USERS[task].0, operation_name(operation), answer_name(answer));
+        println!(
+            "{}: {} {number}: refused, {}",
+            USERS[task].0,
+            operation_name(operation),
+            answer_name(answer)
+        );
         false
     }
 

@@ -17,7 +17,12 @@ pub const STATE_NUMBERS: usize = 122;
 
 mod archive {
     extern "C" {
-        pub fn tiebeamer_reset(table: *mut u32, table_count: usize, state: *mut u32, state_count: usize) -> u32;
+        pub fn tiebeamer_reset(
+            table: *mut u32,
+            table_count: usize,
+            state: *mut u32,
+            state_count: usize,
+        ) -> u32;
         pub fn tiebeamer_begin(
             table: *const u32,
             table_count: usize,
@@ -52,7 +57,12 @@ mod archive {
             state_count: usize,
             task: u32,
         ) -> u32;
-        pub fn tiebeamer_tidy(table: *mut u32, table_count: usize, state: *mut u32, state_count: usize) -> u32;
+        pub fn tiebeamer_tidy(
+            table: *mut u32,
+            table_count: usize,
+            state: *mut u32,
+            state_count: usize,
+        ) -> u32;
         pub fn tiebeamer_figures(
             table: *const u32,
             table_count: usize,
@@ -163,7 +173,7 @@ impl Answer {
             16 => Answer::Limit,
             17 => Answer::Damaged,
             18 => Answer::Length,
-            // 50 and 51 are proved never to come for what is handed in here
+            // 50 and 51 cannot come for what is handed in here, and 19 is a call file's alone
             other => unreachable!("the archive answered {other}"),
         }
     }
@@ -189,6 +199,7 @@ pub struct Fare {
 }
 
 /// A table with its state.
+#[derive(Clone)]
 pub struct FareTable {
     table: Vec<u32>,
     state: [u32; STATE_NUMBERS],
@@ -357,5 +368,42 @@ impl FareTable {
                 .collect()),
             refusal => Err(refusal),
         }
+    }
+}
+
+#[cfg(test)]
+mod tests {
+    use super::{Answer, FareTable, Operation};
+    use std::num::NonZeroU16;
+
+    #[test]
+    fn every_number_is_an_answer_and_back() {
+        for number in (0..=6).chain(10..=18) {
+            assert_eq!(Answer::of(number, 0).number(), number);
+            assert_eq!(Answer::of(number, 0).is_refusal(), 10 <= number);
+        }
+    }
+
+    #[test]
+    fn a_table_has_8_to_4096_slots() {
+        assert_eq!(FareTable::new(7).err(), Some(Answer::Length));
+        assert!(FareTable::new(8).is_ok());
+        assert!(FareTable::new(4096).is_ok());
+        assert_eq!(FareTable::new(4097).err(), Some(Answer::Length));
+    }
+
+    #[test]
+    fn a_fare_comes_and_goes() -> Result<(), Answer> {
+        let mut fares = FareTable::new(64)?;
+        assert_eq!(fares.begin(0, Operation::PutIn(250), 10), Answer::Accepted);
+        assert_eq!(fares.run(0, NonZeroU16::MAX), Answer::PutSettled);
+        assert_eq!(fares.begin(1, Operation::LookUp, 10), Answer::Accepted);
+        assert_eq!(fares.run(1, NonZeroU16::MAX), Answer::Found(250));
+        assert_eq!(fares.figures()?.fares, 1);
+        assert_eq!(fares.begin(2, Operation::TakeOut, 10), Answer::Accepted);
+        assert_eq!(fares.run(2, NonZeroU16::MAX), Answer::TakenOut);
+        assert_eq!(fares.list()?, []);
+        assert_eq!(fares.step(8), Answer::TaskNumber);
+        Ok(())
     }
 }

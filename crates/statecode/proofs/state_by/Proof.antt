@@ -1,8 +1,4 @@
-use lib.ListN.{length, drop, take, length-drop}
 use lib.Seq.{drop-drop}
-use mathlib.Core.Path.{_≡_}
-use native.Mathlib.Omega.{arith}
-use Prim.Native.Nat.{_-_, _≤_}
 use Rattle.statecode.specs.Code.{stateBy, tasksBy}
 use Rattle.statecode.proofs.Writing.{last-fits, part-all}
 use borrow.Author.Needs.{needs}

@@ -1,7 +1,6 @@
 use Rattle.statecode.specs.Code.{taskBy}
 use Rattle.machine.specs.Choice.{ifB}
 use borrow.Author.Tests.{ne-eqb}
-use borrow.Author.Tests.{eq-eqb}
 use borrow.Author.Needs.{needs}
 use Rattle.statecode.proofs.task_by.Statement.{statement}
 use Rattle.statecode.proofs.task_by.Tie as tie
