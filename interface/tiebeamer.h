@@ -4,8 +4,8 @@
  * zeros: that is a state, and tiebeamer_reset lays out the table. Only these calls change them afterwards.
  *
  * What is lent to one call must not overlap, and a pointer must not be null, even where its count is 0. The calls keep
- * nothing, allocate nothing and always return. A refusal changes nothing, save that 15 and 16 of a step or a run end the task's
- * operation. Decisions and proofs: docs/INTERFACE.md.
+ * nothing, allocate nothing and always return. A refusal changes nothing, save that 15 and 16 end the task's operation, and
+ * that a run refused at a later step leaves what its earlier steps did. Decisions and proofs: docs/INTERFACE.md.
  */
 #ifndef TIEBEAMER_H
 #define TIEBEAMER_H
@@ -85,7 +85,8 @@ uint32_t tiebeamer_begin(const uint32_t *table, size_t table_count, uint32_t *st
 uint32_t tiebeamer_step(uint32_t *table, size_t table_count, uint32_t *state, size_t state_count,
                         uint32_t task, uint32_t *price);
 
-/* Up to count steps of a task, as long as they answer 0. It answers as the last step, with its price; 50 and 51 write none. */
+/* Up to count steps of a task, as long as they answer 0. It answers as the last step, with its price; 50 and 51 write no
+ * price. */
 uint32_t tiebeamer_run(uint32_t *table, size_t table_count, uint32_t *state, size_t state_count,
                        uint32_t task, uint32_t count, uint32_t *price);
 

@@ -2,3 +2,4 @@ pub mod Same
 pub mod Inverse
 pub mod Writing
 pub mod Reading
+pub mod Examples
