@@ -10,36 +10,17 @@ use terms::Operation;
 use terms::Out;
 use terms::State;
 use whole::tidy;
+use words::four_at;
+use words::two_at;
+use words::wide;
 ghost use mathlib.Core.Path.{_≡_};
 ghost use mathlib.Core.Bool.{_&&_, not};
 ghost use Prim.Native.Nat.{_+_, _-_, _*_, _≤_, _<_};
 ghost use lib.ListN.{length, getD};
 ghost use Rattle.machine.specs.Contract.{after};
 ghost use Rattle.machine.specs.Answers.{priceOf};
-ghost use Rattle.machine.specs.CallFile.{two, four, jobOf, noJob, begins, steps, abandons, tidies, operationOf, byOperation, decode, runOf, serve, printed, lineOf, recordOf};
+ghost use Rattle.machine.specs.CallFile.{jobOf, noJob, begins, steps, abandons, tidies, operationOf, byOperation, decode, runOf, serve, printed, lineOf, recordOf};
 ghost use Rattle.callfile.specs.Line.{numbers, served};
-
-fn wide(x: u8) -> u32
-    ensures { λ r. ⌜ (r ≡ x) × (r < 256) ⌝ }
-{
-    x as u32
-}
-
-// Two bytes, low byte first.
-fn two_at(b: &[u8], i: usize) -> u32
-    requires { ⌜ (i + 2 ≤ length (now b)) × (i < 4096) ⌝ }
-    ensures { λ r. ⌜ (r ≡ two (now (b .entry)) i) × (r < 65536) ⌝ }
-{
-    wide(b[i]) + 256 * wide(b[i + 1])
-}
-
-// Four bytes, low byte first.
-fn four_at(b: &[u8], i: usize) -> u32
-    requires { ⌜ (i + 4 ≤ length (now b)) × (i < 4096) ⌝ }
-    ensures { λ r. ⌜ r ≡ four (now (b .entry)) i ⌝ }
-{
-    wide(b[i]) + 256 * wide(b[i + 1]) + 65536 * wide(b[i + 2]) + 16777216 * wide(b[i + 3])
-}
 
 fn job_of(b: &[u8]) -> Job
     requires { ⌜ 12 ≤ length (now b) ⌝ }
@@ -104,7 +85,7 @@ fn tidies_of(b: &[u8]) -> Call
 }
 
 // The operation that a begin's byte names.
-fn operation_of(o: u32) -> Operation
+pub fn operation_of(o: u32) -> Operation
     ensures { λ r. ⌜ r ≡ operationOf o ⌝ }
 {
     if o == 1 {

@@ -197,3 +197,13 @@ pub fn other_link(b: Links, s: u32) -> u32
     }
     b.left
 }
+
+// One less, and 0 at 0: a rank, a depth.
+pub fn less_one(d: u32) -> u32
+    ensures { λ r. ⌜ r ≡ d - 1 ⌝ }
+{
+    if d == 0 {
+        return 0;
+    }
+    d - 1
+}

@@ -1,28 +1,27 @@
 // The probe: one call after another, each on a table and a state that are handed in (docs/PROBE.md).
 use beginning::abandon;
 use beginning::begin;
+use callfile::operation_of;
 use callfile::price_of;
 use libc::STDIN_FILENO;
 use libc::STDOUT_FILENO;
 use resetting::reset;
-use state::fresh_state;
 use state::number_of;
-use statecode::Row;
-use statecode::row_of;
-use statecode::task_of;
-use statecode::word_at;
+use statecode::GotState;
+use statecode::read_state;
+use statecode::write_state;
 use stepping::step;
 use terms::Answer;
 use terms::Figures;
 use terms::Job;
-use terms::Operation;
 use terms::Out;
 use terms::State;
 use whole::figures;
 use whole::list;
 use whole::tidy;
+use words::four_at;
 ghost use mathlib.Core.Path.{_≡_};
-ghost use Prim.Native.Nat.{_+_, _*_, _≤_, _<_};
+ghost use Prim.Native.Nat.{_*_, _≤_, _<_};
 ghost use lib.ListN.{length};
 
 fn print_number(n: u32) {
@@ -73,25 +72,10 @@ fn print_figures(f: Figures) {
     end_line();
 }
 
-fn print_row(r: Row) {
-    let mut i: usize = 0;
-    while i < 15 {
-        print_number(r.at[i]);
-        i += 1;
-    }
-}
-
 fn print_state(st: State) {
-    print_word(b"state");
-    let mut i: usize = 0;
-    while i < 8 {
-        let k = st.tasks[i];
-        print_row(row_of(k));
-        i += 1;
-    }
-    print_number(st.m);
-    print_number(st.u);
-    end_line();
+    let mut w = [0u32; 122];
+    write_state(&mut w, st);
+    print_numbers(b"state", &w);
 }
 
 // The seven numbers before state and table.
@@ -107,13 +91,13 @@ struct Ask {
 
 fn ask_of(b: &[u8; 28]) -> Ask {
     Ask {
-        call: word_at(b, 0),
-        operation: word_at(b, 4),
-        task: word_at(b, 8),
-        number: word_at(b, 12),
-        price: word_at(b, 16),
-        room: word_at(b, 20),
-        length: word_at(b, 24),
+        call: four_at(b, 0),
+        operation: four_at(b, 4),
+        task: four_at(b, 8),
+        number: four_at(b, 12),
+        price: four_at(b, 16),
+        room: four_at(b, 20),
+        length: four_at(b, 24),
     }
 }
 
@@ -132,53 +116,23 @@ fn ask_is_call(a: Ask) -> bool {
     }
 }
 
-fn operation_of(o: u32) -> Operation {
-    match o {
-        1 => Operation::LookUp,
-        2 => Operation::PutIn,
-        _ => Operation::TakeOut,
-    }
-}
-
-struct GotState {
-    fine: bool,
-    state: State,
-}
-
-// The numbers of task i.
-fn row_at(b: &[u8; 488], i: usize) -> Row
-    requires { ⌜ i < 8 ⌝ }
+// Numbers out of their bytes.
+fn fill_numbers(t: &mut [u32], b: &[u8])
+    requires { ⌜ (length (now b) ≡ 4 * length (now t)) × (length (now t) ≤ 24600) ⌝ }
 {
-    let mut r = Row { at: [0; 15] };
-    let mut k: usize = 0;
-    while k < 15 {
-        r.at[k] = word_at(b, 60 * i + 4 * k);
-        k += 1;
-    }
-    r
-}
-
-fn state_of(b: &[u8; 488]) -> GotState {
-    let mut st = fresh_state();
+    let l = t.len();
     let mut i: usize = 0;
-    while i < 8 {
-        let g = task_of(row_at(b, i));
-        if !g.fine {
-            return GotState {
-                fine: false,
-                state: st,
-            };
-        }
-        let k = g.task;
-        st.tasks[i] = k;
+    while i < l {
+        t[i] = four_at(b, 4 * i);
         i += 1;
     }
-    st.m = word_at(b, 480);
-    st.u = word_at(b, 484);
-    GotState {
-        fine: true,
-        state: st,
-    }
+}
+
+// The state of its bytes, if they are one.
+fn state_of(b: &[u8; 488]) -> GotState {
+    let mut w = [0u32; 122];
+    fill_numbers(&mut w, b);
+    read_state(&w)
 }
 
 fn print_out(o: Out) -> State {
@@ -232,18 +186,6 @@ fn make(t: &mut [u32], st: State, a: Ask) -> State
     }
 }
 
-// The table's numbers out of their bytes.
-fn fill_table(t: &mut [u32], b: &[u8])
-    requires { ⌜ (length (now b) ≡ 4 * length (now t)) × (length (now t) ≤ 24600) ⌝ }
-{
-    let l = t.len();
-    let mut i: usize = 0;
-    while i < l {
-        t[i] = word_at(b, 4 * i);
-        i += 1;
-    }
-}
-
 // The table is read, the call made, everything printed; whether the input went so far.
 fn probe_lent(st: State, a: Ask, t: &mut [u32], bytes: &mut [u8]) -> bool
     requires { ⌜ (a .room ≤ 8192) × (length (now bytes) ≡ 4 * length (now t)) × (length (now t) ≤ 24600) ⌝ }
@@ -252,7 +194,7 @@ fn probe_lent(st: State, a: Ask, t: &mut [u32], bytes: &mut [u8]) -> bool
     if n < bytes.len() {
         return false;
     }
-    fill_table(t, bytes);
+    fill_numbers(t, bytes);
     print_state(make(t, st, a));
     print_numbers(b"table", t);
     true

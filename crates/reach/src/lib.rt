@@ -4,6 +4,7 @@ use fields::is_fare;
 use fields::is_leaf;
 use fields::is_level;
 use fields::is_linked;
+use fields::less_one;
 use fields::load;
 use fields::put_fill;
 use fields::well_formed;
@@ -71,15 +72,6 @@ fn deeper_by(d: u32) -> u32
         return 0;
     }
     d + 1
-}
-
-fn less_one(d: u32) -> u32
-    ensures { λ r. ⌜ r ≡ d - 1 ⌝ }
-{
-    if d == 0 {
-        return 0;
-    }
-    d - 1
 }
 
 fn lost_below(left: u32) -> Below

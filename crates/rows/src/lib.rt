@@ -1,4 +1,5 @@
 // The settling table: which row fits, and the writes of each row. Both mirror forms are one text.
+use fields::less_one;
 use fields::other_link;
 use fields::put_fill;
 use fields::put_lead;
@@ -70,16 +71,6 @@ pub fn is_double(row: LevelRow) -> bool
         LevelRow::RotateTwo => false,
         LevelRow::DoubleRotation => true,
     }
-}
-
-// A rank less one.
-pub fn less_one(rank: u32) -> u32
-    ensures { λ r. ⌜ r ≡ rank - 1 ⌝ }
-{
-    if rank == 0 {
-        return 0;
-    }
-    rank - 1
 }
 
 // An inner record that leads to `near` on x's side and to `far` on the other.

@@ -1,4 +1,5 @@
 // A state as 122 numbers, and back (docs/PROBE.md): eight tasks of 15 numbers each, then m, then u.
+use state::fresh_state;
 use terms::Goal;
 use terms::Job;
 use terms::Links;
@@ -11,178 +12,27 @@ use terms::State;
 use terms::TakeStage;
 use terms::Task;
 use terms::Work;
+ghost use mathlib.Core.Path.{_≡_};
+ghost use mathlib.Core.List.{_++_};
 ghost use Prim.Native.Nat.{_+_, _*_, _≤_, _<_};
-ghost use lib.ListN.{length};
+ghost use lib.ListN.{length, drop};
+ghost use lib.Seq.{paste};
+ghost use Rattle.statecode.specs.Code.{goalNumber, noLinks, noPath, places, putRow, takeRow, settleRow, phaseRow, workRow, rows, encode, jobBy, pathBy, linksBy, goalBy, putBy, takeBy, settleBy, phaseBy, taskBy, stateBy, sameNumbers, noState, decode};
 
 // The numbers of one task.
 pub struct Row {
     pub at: [u32; 15],
 }
 
-// A task, or 15 numbers that are none.
-pub struct GotTask {
+// A state, or numbers that are none.
+pub struct GotState {
     pub fine: bool,
-    pub task: Task,
+    pub state: State,
 }
 
-// Whether all numbers from a place on are 0.
-fn is_zero_from(w: Row, from: usize) -> bool {
-    let mut i = from;
-    while i < 15 {
-        if w.at[i] != 0 {
-            return false;
-        }
-        i += 1;
-    }
-    true
-}
-
-fn no_task() -> GotTask {
-    GotTask {
-        fine: false,
-        task: Task::idle(),
-    }
-}
-
-fn got(w: Row, f: Phase) -> GotTask {
-    let j = Job {
-        number: w.at[1],
-        price: w.at[2],
-    };
-    GotTask {
-        fine: true,
-        task: Task {
-            work: Work::Busy(j, f),
-        },
-    }
-}
-
-fn goal_of(g: u32) -> Goal {
-    match g {
-        1 => Goal::Serve(Operation::LookUp),
-        2 => Goal::Serve(Operation::PutIn),
-        3 => Goal::Serve(Operation::TakeOut),
-        _ => Goal::Settle,
-    }
-}
-
-fn path_of(w: Row) -> Path {
-    Path {
-        grand: w.at[4],
-        parent: w.at[5],
-        here: w.at[6],
-    }
-}
-
-fn first(w: Row) -> Links {
-    Links {
-        left: w.at[7],
-        right: w.at[8],
-    }
-}
-
-fn second(w: Row) -> Links {
-    Links {
-        left: w.at[9],
-        right: w.at[10],
-    }
-}
-
-fn third(w: Row) -> Links {
-    Links {
-        left: w.at[11],
-        right: w.at[12],
-    }
-}
-
-fn fourth(w: Row) -> Links {
-    Links {
-        left: w.at[13],
-        right: w.at[14],
-    }
-}
-
-// About to walk, and walking.
-fn walker_of(w: Row, walks: bool) -> GotTask {
-    let g = w.at[3];
-    if (g == 0) | (4 < g) {
-        return no_task();
-    }
-    if walks {
-        if !is_zero_from(w, 7) {
-            return no_task();
-        }
-        return got(w, Phase::Walk(goal_of(g), path_of(w)));
-    }
-    if !is_zero_from(w, 4) {
-        return no_task();
-    }
-    got(w, Phase::Start(goal_of(g)))
-}
-
-fn put_stage(w: Row, k: u32) -> PutStage {
-    match k {
-        0 => PutStage::PutParent,
-        1 => PutStage::PutLeaf(first(w)),
-        _ => PutStage::PutCommit(first(w), second(w)),
-    }
-}
-
-fn take_stage(w: Row, k: u32) -> TakeStage {
-    match k {
-        0 => TakeStage::TakeGrand,
-        1 => TakeStage::TakeParent(first(w)),
-        2 => TakeStage::TakeLeft(first(w), second(w)),
-        3 => TakeStage::TakeRight(first(w), second(w), third(w)),
-        _ => TakeStage::TakeCommit(first(w), second(w), third(w), fourth(w)),
-    }
-}
-
-fn settle_stage(w: Row, k: u32) -> SettleStage {
-    match k {
-        0 => SettleStage::SettleGrand,
-        1 => SettleStage::SettleParent(first(w)),
-        2 => SettleStage::SettleChoose(first(w), second(w)),
-        3 => SettleStage::SettleRotate(first(w), second(w), third(w)),
-        _ => SettleStage::SettleDouble(first(w), second(w), third(w), fourth(w)),
-    }
-}
-
-// Putting in, taking out, settling: k records were read.
-fn reader_of(w: Row, phase: u32) -> GotTask {
-    let k = w.at[3];
-    if 4 < k {
-        return no_task();
-    }
-    if (phase == 3) & (2 < k) {
-        return no_task();
-    }
-    if !is_zero_from(w, 7 + 2 * k as usize) {
-        return no_task();
-    }
-    match phase {
-        3 => got(w, Phase::PuttingIn(path_of(w), put_stage(w, k))),
-        4 => got(w, Phase::TakingOut(path_of(w), take_stage(w, k))),
-        _ => got(w, Phase::Settling(path_of(w), settle_stage(w, k))),
-    }
-}
-
-// The task of 15 numbers.
-pub fn task_of(w: Row) -> GotTask {
-    let phase = w.at[0];
-    match phase {
-        0 => GotTask {
-            fine: is_zero_from(w, 1),
-            task: Task::idle(),
-        },
-        1 => walker_of(w, false),
-        2 => walker_of(w, true),
-        3..=5 => reader_of(w, phase),
-        _ => no_task(),
-    }
-}
-
-fn goal_number(g: Goal) -> u32 {
+fn goal_number(g: Goal) -> u32
+    ensures { λ r. ⌜ r ≡ goalNumber g ⌝ }
+{
     match g {
         Goal::Serve(o) => match o {
             Operation::LookUp => 1,
@@ -193,114 +43,98 @@ fn goal_number(g: Goal) -> u32 {
     }
 }
 
-// The numbers of a task with its phase, its fourth number and its path.
-fn row_with(phase: u32, j: Job, k: u32, q: Path) -> Row {
+fn no_links() -> Links
+    ensures { λ r. ⌜ r ≡ noLinks ⌝ }
+{
+    Links { left: 0, right: 0 }
+}
+
+// The 15 places of a task.
+fn places_of(f: u32, j: Job, k: u32, q: Path, a: Links, b: Links, c: Links, d: Links) -> Row
+    ensures { λ r. ⌜ r .at ≡ places f j k q a b c d ⌝ }
+{
     Row {
         at: [
-            phase,
+            f,
             j.number,
             j.price,
             k,
             q.grand,
             q.parent,
             q.here,
-            0,
-            0,
-            0,
-            0,
-            0,
-            0,
-            0,
-            0,
+            a.left,
+            a.right,
+            b.left,
+            b.right,
+            c.left,
+            c.right,
+            d.left,
+            d.right,
         ],
     }
 }
 
-fn with_first(w: Row, a: Links) -> Row {
-    let mut r = w;
-    r.at[7] = a.left;
-    r.at[8] = a.right;
-    r
-}
-
-fn with_second(w: Row, a: Links) -> Row {
-    let mut r = w;
-    r.at[9] = a.left;
-    r.at[10] = a.right;
-    r
-}
-
-fn with_third(w: Row, a: Links) -> Row {
-    let mut r = w;
-    r.at[11] = a.left;
-    r.at[12] = a.right;
-    r
-}
-
-fn with_fourth(w: Row, a: Links) -> Row {
-    let mut r = w;
-    r.at[13] = a.left;
-    r.at[14] = a.right;
-    r
-}
-
-fn put_row(j: Job, q: Path, s: PutStage) -> Row {
+fn put_row(j: Job, q: Path, s: PutStage) -> Row
+    ensures { λ r. ⌜ r .at ≡ putRow j q s ⌝ }
+{
+    let o = no_links();
     match s {
-        PutStage::PutParent => row_with(3, j, 0, q),
-        PutStage::PutLeaf(a) => with_first(row_with(3, j, 1, q), a),
-        PutStage::PutCommit(a, b) => with_second(with_first(row_with(3, j, 2, q), a), b),
+        PutStage::PutParent => places_of(3, j, 0, q, o, o, o, o),
+        PutStage::PutLeaf(a) => places_of(3, j, 1, q, a, o, o, o),
+        PutStage::PutCommit(a, b) => places_of(3, j, 2, q, a, b, o, o),
     }
 }
 
-fn take_row(j: Job, q: Path, s: TakeStage) -> Row {
+fn take_row(j: Job, q: Path, s: TakeStage) -> Row
+    ensures { λ r. ⌜ r .at ≡ takeRow j q s ⌝ }
+{
+    let o = no_links();
     match s {
-        TakeStage::TakeGrand => row_with(4, j, 0, q),
-        TakeStage::TakeParent(a) => with_first(row_with(4, j, 1, q), a),
-        TakeStage::TakeLeft(a, b) => with_second(with_first(row_with(4, j, 2, q), a), b),
-        TakeStage::TakeRight(a, b, c) => with_third(
-            with_second(with_first(row_with(4, j, 3, q), a), b),
-            c,
-        ),
-        TakeStage::TakeCommit(a, b, c, d) => {
-            with_fourth(
-                with_third(with_second(with_first(row_with(4, j, 4, q), a), b), c),
-                d,
-            )
-        }
+        TakeStage::TakeGrand => places_of(4, j, 0, q, o, o, o, o),
+        TakeStage::TakeParent(a) => places_of(4, j, 1, q, a, o, o, o),
+        TakeStage::TakeLeft(a, b) => places_of(4, j, 2, q, a, b, o, o),
+        TakeStage::TakeRight(a, b, c) => places_of(4, j, 3, q, a, b, c, o),
+        TakeStage::TakeCommit(a, b, c, d) => places_of(4, j, 4, q, a, b, c, d),
     }
 }
 
-fn settle_row(j: Job, q: Path, s: SettleStage) -> Row {
+fn settle_row(j: Job, q: Path, s: SettleStage) -> Row
+    ensures { λ r. ⌜ r .at ≡ settleRow j q s ⌝ }
+{
+    let o = no_links();
     match s {
-        SettleStage::SettleGrand => row_with(5, j, 0, q),
-        SettleStage::SettleParent(a) => with_first(row_with(5, j, 1, q), a),
-        SettleStage::SettleChoose(a, b) => with_second(with_first(row_with(5, j, 2, q), a), b),
-        SettleStage::SettleRotate(a, b, c) => with_third(
-            with_second(with_first(row_with(5, j, 3, q), a), b),
-            c,
-        ),
-        SettleStage::SettleDouble(a, b, c, d) => {
-            with_fourth(
-                with_third(with_second(with_first(row_with(5, j, 4, q), a), b), c),
-                d,
-            )
-        }
+        SettleStage::SettleGrand => places_of(5, j, 0, q, o, o, o, o),
+        SettleStage::SettleParent(a) => places_of(5, j, 1, q, a, o, o, o),
+        SettleStage::SettleChoose(a, b) => places_of(5, j, 2, q, a, b, o, o),
+        SettleStage::SettleRotate(a, b, c) => places_of(5, j, 3, q, a, b, c, o),
+        SettleStage::SettleDouble(a, b, c, d) => places_of(5, j, 4, q, a, b, c, d),
     }
 }
 
-fn phase_row(j: Job, f: Phase) -> Row {
+// A walker's numbers: its phase, its goal and its path.
+fn walk_row(f: u32, j: Job, g: Goal, q: Path) -> Row
+    ensures { λ r. ⌜ r .at ≡ places f j (goalNumber g) q noLinks noLinks noLinks noLinks ⌝ }
+{
+    let o = no_links();
+    places_of(f, j, goal_number(g), q, o, o, o, o)
+}
+
+fn no_path() -> Path
+    ensures { λ r. ⌜ r ≡ noPath ⌝ }
+{
+    Path {
+        grand: 0,
+        parent: 0,
+        here: 0,
+    }
+}
+
+fn phase_row(j: Job, f: Phase) -> Row
+    ensures { λ r. ⌜ r .at ≡ phaseRow j f ⌝ }
+{
     match f {
-        Phase::Start(g) => row_with(
-            1,
-            j,
-            goal_number(g),
-            Path {
-                grand: 0,
-                parent: 0,
-                here: 0,
-            },
-        ),
-        Phase::Walk(g, q) => row_with(2, j, goal_number(g), q),
+        Phase::Start(g) => walk_row(1, j, g, no_path()),
+        Phase::Walk(g, q) => walk_row(2, j, g, q),
         Phase::PuttingIn(q, s) => put_row(j, q, s),
         Phase::TakingOut(q, s) => take_row(j, q, s),
         Phase::Settling(q, s) => settle_row(j, q, s),
@@ -308,7 +142,9 @@ fn phase_row(j: Job, f: Phase) -> Row {
 }
 
 // The 15 numbers of a task.
-pub fn row_of(k: Task) -> Row {
+fn row_of(k: Task) -> Row
+    ensures { λ r. ⌜ r .at ≡ workRow (k .work) ⌝ }
+{
     let w = k.work;
     match w {
         Work::Idle => Row { at: [0; 15] },
@@ -316,15 +152,227 @@ pub fn row_of(k: Task) -> Row {
     }
 }
 
-fn wide(x: u8) -> u32
-    ensures { λ r. ⌜ r < 256 ⌝ }
+// The 15 numbers are written from a place on.
+fn put_row_at(w: &mut [u32], from: usize, r: Row)
+    requires { ⌜ (from + 15 ≤ length (now w)) × (from < 1000) ⌝ }
+    ensures { λ _. ⌜ now (w .exit) ≡ paste (now (w .entry)) from (r .at) 15 ⌝ }
 {
-    x as u32
+    let mut i: usize = 0;
+    while i < 15 {
+        w[from + i] = r.at[i];
+        i += 1;
+    }
 }
 
-// A number of four bytes, low byte first.
-pub fn word_at(b: &[u8], i: usize) -> u32
-    requires { ⌜ (i + 4 ≤ length (now b)) × (i < 1000000) ⌝ }
+// The numbers of the eight tasks.
+fn write_tasks(w: &mut [u32], st: State)
+    requires { ⌜ length (now w) ≡ 122 ⌝ }
+    ensures { λ _. ⌜ now (w .exit) ≡ rows (st .tasks) ++ drop 120 (now (w .entry)) ⌝ }
 {
-    wide(b[i]) + 256 * wide(b[i + 1]) + 65536 * wide(b[i + 2]) + 16777216 * wide(b[i + 3])
+    let mut i: usize = 0;
+    while i < 8 {
+        let k = st.tasks[i];
+        put_row_at(w, 15 * i, row_of(k));
+        i += 1;
+    }
+}
+
+// The numbers of a state.
+pub fn write_state(w: &mut [u32], st: State)
+    requires { ⌜ length (now w) ≡ 122 ⌝ }
+    ensures { λ _. ⌜ now (w .exit) ≡ encode st ⌝ }
+{
+    write_tasks(w, st);
+    w[120] = st.m;
+    w[121] = st.u;
+}
+
+fn job_by(w: &[u32]) -> Job
+    requires { ⌜ 15 ≤ length (now w) ⌝ }
+    ensures { λ r. ⌜ r ≡ jobBy (now (w .entry)) ⌝ }
+{
+    Job {
+        number: w[1],
+        price: w[2],
+    }
+}
+
+fn path_by(w: &[u32]) -> Path
+    requires { ⌜ 15 ≤ length (now w) ⌝ }
+    ensures { λ r. ⌜ r ≡ pathBy (now (w .entry)) ⌝ }
+{
+    Path {
+        grand: w[4],
+        parent: w[5],
+        here: w[6],
+    }
+}
+
+fn links_by(w: &[u32], i: usize) -> Links
+    requires { ⌜ (15 ≤ length (now w)) × (i < 14) ⌝ }
+    ensures { λ r. ⌜ r ≡ linksBy (now (w .entry)) i ⌝ }
+{
+    Links {
+        left: w[i],
+        right: w[i + 1],
+    }
+}
+
+fn goal_by(g: u32) -> Goal
+    ensures { λ r. ⌜ r ≡ goalBy g ⌝ }
+{
+    match g {
+        1 => Goal::Serve(Operation::LookUp),
+        2 => Goal::Serve(Operation::PutIn),
+        3 => Goal::Serve(Operation::TakeOut),
+        _ => Goal::Settle,
+    }
+}
+
+fn put_by(w: &[u32], k: u32) -> PutStage
+    requires { ⌜ 15 ≤ length (now w) ⌝ }
+    ensures { λ r. ⌜ r ≡ putBy (now (w .entry)) k ⌝ }
+{
+    let a = links_by(w, 7);
+    let b = links_by(w, 9);
+    match k {
+        0 => PutStage::PutParent,
+        1 => PutStage::PutLeaf(a),
+        _ => PutStage::PutCommit(a, b),
+    }
+}
+
+fn take_by(w: &[u32], k: u32) -> TakeStage
+    requires { ⌜ 15 ≤ length (now w) ⌝ }
+    ensures { λ r. ⌜ r ≡ takeBy (now (w .entry)) k ⌝ }
+{
+    let a = links_by(w, 7);
+    let b = links_by(w, 9);
+    let c = links_by(w, 11);
+    let d = links_by(w, 13);
+    match k {
+        0 => TakeStage::TakeGrand,
+        1 => TakeStage::TakeParent(a),
+        2 => TakeStage::TakeLeft(a, b),
+        3 => TakeStage::TakeRight(a, b, c),
+        _ => TakeStage::TakeCommit(a, b, c, d),
+    }
+}
+
+fn settle_by(w: &[u32], k: u32) -> SettleStage
+    requires { ⌜ 15 ≤ length (now w) ⌝ }
+    ensures { λ r. ⌜ r ≡ settleBy (now (w .entry)) k ⌝ }
+{
+    let a = links_by(w, 7);
+    let b = links_by(w, 9);
+    let c = links_by(w, 11);
+    let d = links_by(w, 13);
+    match k {
+        0 => SettleStage::SettleGrand,
+        1 => SettleStage::SettleParent(a),
+        2 => SettleStage::SettleChoose(a, b),
+        3 => SettleStage::SettleRotate(a, b, c),
+        _ => SettleStage::SettleDouble(a, b, c, d),
+    }
+}
+
+fn phase_by(w: &[u32], f: u32) -> Phase
+    requires { ⌜ 15 ≤ length (now w) ⌝ }
+    ensures { λ r. ⌜ r ≡ phaseBy (now (w .entry)) f ⌝ }
+{
+    let k = w[3];
+    match f {
+        1 => Phase::Start(goal_by(k)),
+        2 => Phase::Walk(goal_by(k), path_by(w)),
+        3 => Phase::PuttingIn(path_by(w), put_by(w, k)),
+        4 => Phase::TakingOut(path_by(w), take_by(w, k)),
+        _ => Phase::Settling(path_by(w), settle_by(w, k)),
+    }
+}
+
+// What the first 15 numbers read as, whether they are a task's or not.
+fn task_by(w: &[u32]) -> Task
+    requires { ⌜ 15 ≤ length (now w) ⌝ }
+    ensures { λ r. ⌜ r ≡ taskBy (now (w .entry)) ⌝ }
+{
+    let f = w[0];
+    if f == 0 {
+        return Task::idle();
+    }
+    Task {
+        work: Work::Busy(job_by(w), phase_by(w, f)),
+    }
+}
+
+// What 122 numbers read as.
+fn state_by(w: &[u32]) -> State
+    requires { ⌜ length (now w) ≡ 122 ⌝ }
+    ensures { λ r. ⌜ r ≡ stateBy (now (w .entry)) ⌝ }
+{
+    let tasks = [
+        task_by(w),
+        task_by(&w[15..]),
+        task_by(&w[30..]),
+        task_by(&w[45..]),
+        task_by(&w[60..]),
+        task_by(&w[75..]),
+        task_by(&w[90..]),
+        task_by(&w[105..]),
+    ];
+    State {
+        tasks: tasks,
+        m: w[120],
+        u: w[121],
+    }
+}
+
+fn same_numbers(a: &[u32], b: &[u32]) -> bool
+    requires { ⌜ length (now a) ≡ length (now b) ⌝ }
+    ensures { λ r. ⌜ r ≡ sameNumbers (now (a .entry)) (now (b .entry)) ⌝ }
+{
+    let l = a.len();
+    let mut i: usize = 0;
+    while i < l {
+        if a[i] != b[i] {
+            return false;
+        }
+        i += 1;
+    }
+    true
+}
+
+fn no_state() -> GotState
+    ensures { λ r. ⌜ r ≡ noState ⌝ }
+{
+    GotState {
+        fine: false,
+        state: fresh_state(),
+    }
+}
+
+// Whether the numbers are those of the state that they read as.
+fn is_own(w: &[u32], st: State) -> bool
+    requires { ⌜ length (now w) ≡ 122 ⌝ }
+    ensures { λ r. ⌜ r ≡ sameNumbers (encode st) (now (w .entry)) ⌝ }
+{
+    let mut own = [0u32; 122];
+    write_state(&mut own, st);
+    same_numbers(&own, w)
+}
+
+// The state of a row of numbers, if it is one.
+pub fn read_state(w: &[u32]) -> GotState
+    ensures { λ r. ⌜ r ≡ decode (now (w .entry)) ⌝ }
+{
+    if w.len() != 122 {
+        return no_state();
+    }
+    let st = state_by(w);
+    if !is_own(w, st) {
+        return no_state();
+    }
+    GotState {
+        fine: true,
+        state: st,
+    }
 }

@@ -4,7 +4,7 @@ use borrow.Author.Needs.{needs}
 use Rattle.callfile.proofs.abandons_of.Statement.{statement}
 use Rattle.callfile.proofs.abandons_of.Tie as tie
 use Rattle.callfile.proofs.no_job.Reads as no-job-reads
-use Rattle.callfile.proofs.two_at.Reads as two-at-reads
+use Rattle.words.proofs.two_at.Reads as two-at-reads
 
 two-at-requires : tie.Need-two-at-requires
 two-at-requires c κs = search needs

@@ -1,7 +1,7 @@
 use borrow.Author.Needs.{needs}
 use Rattle.callfile.proofs.job_of.Statement.{statement}
 use Rattle.callfile.proofs.job_of.Tie as tie
-use Rattle.callfile.proofs.four_at.Reads as four-at-reads
+use Rattle.words.proofs.four_at.Reads as four-at-reads
 
 four-at-requires : tie.Need-four-at-requires
 four-at-requires c κs = search needs

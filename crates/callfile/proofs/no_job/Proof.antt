@@ -2,7 +2,7 @@ use Rattle.machine.specs.CallFile.{noJob}
 use borrow.Author.Needs.{needs}
 use Rattle.callfile.proofs.no_job.Statement.{statement}
 use Rattle.callfile.proofs.no_job.Tie as tie
-use Rattle.callfile.proofs.four_at.Reads as four-at-reads
+use Rattle.words.proofs.four_at.Reads as four-at-reads
 
 four-at-requires : tie.Need-four-at-requires
 four-at-requires c κs = search needs

@@ -6,7 +6,7 @@ use Rattle.reach.proofs.inner_below.Tie as tie
 use Rattle.fields.proofs.is_level.Reads as is-level-reads
 use Rattle.reach.proofs.deeper_by.Reads as deeper-by-reads
 use Rattle.reach.proofs.larger_of.Reads as larger-of-reads
-use Rattle.reach.proofs.less_one.Reads as less-one-reads
+use Rattle.fields.proofs.less_one.Reads as less-one-reads
 use Rattle.state.proofs.one_if.Reads as one-if-reads
 
 is-level-requires : tie.Need-is-level-requires

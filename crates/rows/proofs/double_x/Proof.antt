@@ -1,7 +1,7 @@
 use borrow.Author.Needs.{needs}
 use Rattle.rows.proofs.double_x.Statement.{statement}
 use Rattle.rows.proofs.double_x.Tie as tie
-use Rattle.rows.proofs.less_one.Reads as less-one-reads
+use Rattle.fields.proofs.less_one.Reads as less-one-reads
 use Rattle.rows.proofs.link_at.Reads as link-at-reads
 use Rattle.rows.proofs.sided_record.Reads as sided-record-reads
 

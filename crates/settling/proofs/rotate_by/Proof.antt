@@ -3,7 +3,7 @@ use Rattle.settling.proofs.Rows.{rotate-by-rows}
 use borrow.Author.Needs.{needs}
 use Rattle.settling.proofs.rotate_by.Statement.{statement}
 use Rattle.settling.proofs.rotate_by.Tie as tie
-use Rattle.rows.proofs.less_one.Reads as less-one-reads
+use Rattle.fields.proofs.less_one.Reads as less-one-reads
 use Rattle.settling.proofs.rotate_do.Reads as rotate-do-reads
 use Rattle.settling.proofs.rotate_two_do.Reads as rotate-two-do-reads
 use Rattle.walk.proofs.calm_turn.Reads as calm-turn-reads

@@ -1,0 +1,5 @@
+pub mod Same
+pub mod Inverse
+pub mod Writing
+pub mod Reading
+pub mod Examples

@@ -1,0 +1,6 @@
+pub mod Priceless
+pub mod Rows
+pub mod Kept
+pub mod Never
+pub mod Strict
+pub mod Unchanged
