@@ -17,7 +17,7 @@ use Rattle.routes.specs.Route.{Has, levAt, lv, rankC, route}
 use Rattle.trees.proofs.Held.{Carries}
 use Rattle.trees.specs.Order.{high, low}
 use Rattle.trees.specs.Rank.{rank}
-use Rattle.trees.specs.Tree.{Ctx, Tree, join, leaf, leafRec, node, plug, root, sideRec}
+use Rattle.trees.specs.Tree.{Ctx, Tree, join, leaf, leafRec, node, parent, plug, root, sideRec}
 
 -- what a commit means for the fares
 pub data Kind : Type 0 where
@@ -47,6 +47,15 @@ pub data Act (v : View) : Kind → Tree → View → Tree → Type 0 where
       → Act v settles (plug c (deep b z x y kx ky kz (suc j) rx ry W A B S))
       (wrote v c y′ (fresh y′ (sideRec b ky (suc j) x′ z′) ∷ duo b (fresh x′ (sideRec b kx j (root W) (root A))) (fresh z′ (sideRec b kz j (root B) (root S)))) (z ∷ x ∷ y ∷ []))
       (plug c (flat b y′ x′ z′ kx ky kz (suc j) j j W A B S))
+
+-- the record aboveAct the changed place
+abbrev pub aboveAct : {v w : View} {kind : Kind} {t t′ : Tree} → Act v kind t w t′ → ℕ
+aboveAct (puts c k p h kh ph rh a l m RK kl pl rl km pm rm fa fl fm al lm r two fits on) = parent c
+aboveAct (takes c b p kp rp l kl pl rl s′ S free fare) = parent c
+aboveAct (promotes c b z z′ key r X S free lx near up lim) = parent c
+aboveAct (rotates1 c b z x x′ z′ kx kz rx j W Y S fx fz xz lx hy hs lim) = parent c
+aboveAct (rotates2 c b z x x′ z′ kx kz rx j W Y S fx fz xz lx hy hw hs up lim) = parent c
+aboveAct (doubles c b z x y y′ x′ z′ kx ky kz rx ry j W A B S fy fx fz up lx ey hw hs lim) = parent c
 
 -- whether a put-in's new inner record is level with its parent: then its task settles next
 abbrev pub levelPut : {v w : View} {kind : Kind} {t t′ : Tree} → Act v kind t w t′ → Bool

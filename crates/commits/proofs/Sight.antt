@@ -2,9 +2,9 @@
 use Prim.Native.Nat.{_<_, _≤_, suc, ℕ}
 use mathlib.Core.Bool.{Bool, false, not, true}
 use mathlib.Core.List.{[], _∷_}
-use mathlib.Core.Path.{_∙_, _≡_, ap, ap₂, subst, sym}
+use mathlib.Core.Path.{_∙_, _≡_, ap, ap₂, refl, subst, sym}
 use native.Mathlib.Omega.{arith}
-use Rattle.commits.proofs.Acts.{Act, Kind, doubles, levelPut, promotes, puts, puts-in, rotates1, rotates2, settles, takes, takes-out}
+use Rattle.commits.proofs.Acts.{Act, Kind, aboveAct, doubles, levelPut, promotes, puts, puts-in, rotates1, rotates2, settles, takes, takes-out}
 use Rattle.commits.proofs.Commits.{Rising, duo}
 use Rattle.commits.proofs.Forms.{deep, lean, rank-join, renew, root-join}
 use Rattle.commits.proofs.Grounds.{InnerRank, Steady, Two, above, outranked, parent-rank, put-fits, root-rank}
@@ -70,10 +70,11 @@ place v t i pz z d b one leads nz in-z = found (child-of v t i pz z d one leads 
         let g = split v (ch .sub) b z (held-at v t (ch .ctx) (ch .sub) i (ch .whole)) (ch .at) in-z in
         here (ch .ctx) (ch .sub) (ch .whole) (ch .under) (ch .on) (g .L) (g .R) (g .whole) (g .near) (g .far)
 
--- a commit is an act: the tree after it
-pub record Changed (v : View) (kind : Kind) (t : Tree) (w : View) : Type 0 where
+-- a commit is an act under slot g: the tree after it
+pub record Changed (v : View) (kind : Kind) (t : Tree) (g : ℕ) (w : View) : Type 0 where
   pub tree : Tree
   pub act : Act v kind t w tree
+  pub under : aboveAct act ≡ g
 
 -- a put-in, with what it says of the new inner record
 pub record PutChanged (v : View) (k p : ℕ) (t : Tree) (w : View) (lev : Bool) : Type 0 where
@@ -85,7 +86,7 @@ pub record PutChanged (v : View) (k p : ℕ) (t : Tree) (w : View) (lev : Bool) 
 promote-at : (v : View) (t : Tree) → Carries v t → Shape t → (pz z z′ x s : ℕ) (d b : Bool) (c : Ctx) (X S : Tree)
     → t ≡ plug c (join b z (v z .number) (v z .rank) X S) → parent c ≡ pz → pside c ≡ d → root X ≡ x → root S ≡ s
     → suc (v z .rank) ≤ 28 → lv (v z .rank) (v x .rank) ≡ true → v z .rank ≤ suc (v s .rank) → Steady v pz z → v z′ .state ≡ 0
-    → Changed v settles t (upds v (fill z′ (sideRec b (v z .number) (suc (v z .rank)) x s) ∷ off z ∷ lead pz d z′ ∷ []))
+    → Changed v settles t pz (upds v (fill z′ (sideRec b (v z .number) (suc (v z .rank)) x s) ∷ off z ∷ lead pz d z′ ∷ []))
 promote-at v t i f pz z z′ x s d b c X S whole under on near far lim lx close st free =
     let i′ : Carries v (plug c (join b z (v z .number) (v z .rank) X S)) = rw whole at i in
     let f′ : Shape (plug c (join b z (v z .number) (v z .rank) X S)) = rw whole at f in
@@ -94,11 +95,11 @@ promote-at v t i f pz z z′ x s d b c X S whole under on near far lim lx close 
     let e = rank-join b z (v z .number) (v z .rank) X S in
     let up = outranked v c (join b z (v z .number) (v z .rank) X S) i′ f′ (rw e (omega arith)) (rw (root-join b z (v z .number) (v z .rank) X S, under) st) in
     let cl : v z .rank ≤ suc (rank S) = rw (← (root-rank v S (h .2)), far) close in
-    rw (whole, ← under, ← on, ← near, ← far) (record { tree = plug c (join b z′ (v z .number) (suc (v z .rank)) X S); act = promotes c b z z′ (v z .number) (v z .rank) X S free lx′ cl (rw e at up) lim })
+    rw (whole, ← under, ← on, ← near, ← far) (record { tree = plug c (join b z′ (v z .number) (suc (v z .rank)) X S); act = promotes c b z z′ (v z .number) (v z .rank) X S free lx′ cl (rw e at up) lim; under = refl {a = parent c} })
 
 pub promote-seen : (v : View) (t : Tree) → Carries v t → Shape t → (pz z z′ : ℕ) (d b : Bool)
     → v pz .state ≡ 1 → link d (v pz) ≡ z → (z ≡ 0 → ⊥) → (v z .left ≡ 0 → ⊥) → suc (v z .rank) ≤ 28 → lv (v z .rank) (v (link b (v z)) .rank) ≡ true → v z .rank ≤ suc (v (link (not b) (v z)) .rank) → Steady v pz z → v z′ .state ≡ 0
-    → Changed v settles t (upds v (fill z′ (sideRec b (v z .number) (suc (v z .rank)) (link b (v z)) (link (not b) (v z))) ∷ off z ∷ lead pz d z′ ∷ []))
+    → Changed v settles t pz (upds v (fill z′ (sideRec b (v z .number) (suc (v z .rank)) (link b (v z)) (link (not b) (v z))) ∷ off z ∷ lead pz d z′ ∷ []))
 promote-seen v t i f pz z z′ d b one leads nz inz lim lx close st free =
     let p = place v t i pz z d b one leads nz inz in
     promote-at v t i f pz z z′ (link b (v z)) (link (not b) (v z)) d b (p .c) (p .X) (p .S) (p .whole) (p .under) (p .on) (p .near) (p .far) lim lx close st free
@@ -143,9 +144,9 @@ leans v t i pz z d b one leads nz inz inx =
 -- the act at the place is the act of the whole
 turned : (v : View) (t t′ : Tree) (pz z x x′ z′ w y s kx kz rz rx rx′ rz′ : ℕ) (d b : Bool) (c : Ctx) (W Y S : Tree)
     → t ≡ plug c (lean b z x kx kz rz rx W Y S) → parent c ≡ pz → pside c ≡ d → root W ≡ w → root Y ≡ y → root S ≡ s
-    → Act v settles (plug c (lean b z x kx kz rz rx W Y S)) (wrote v c x′ (fresh x′ (sideRec b kx rx′ (root W) z′) ∷ fresh z′ (sideRec b kz rz′ (root Y) (root S)) ∷ []) (z ∷ x ∷ [])) t′
-    → Changed v settles t (upds v (fill x′ (sideRec b kx rx′ w z′) ∷ fill z′ (sideRec b kz rz′ y s) ∷ off z ∷ off x ∷ lead pz d x′ ∷ []))
-turned v t t′ pz z x x′ z′ w y s kx kz rz rx rx′ rz′ d b c W Y S all under on wa ya sa a = rw (all, ← under, ← on, ← wa, ← ya, ← sa) (record { tree = t′; act = a })
+    → (a : Act v settles (plug c (lean b z x kx kz rz rx W Y S)) (wrote v c x′ (fresh x′ (sideRec b kx rx′ (root W) z′) ∷ fresh z′ (sideRec b kz rz′ (root Y) (root S)) ∷ []) (z ∷ x ∷ [])) t′) → aboveAct a ≡ parent c
+    → Changed v settles t pz (upds v (fill x′ (sideRec b kx rx′ w z′) ∷ fill z′ (sideRec b kz rz′ y s) ∷ off z ∷ off x ∷ lead pz d x′ ∷ []))
+turned v t t′ pz z x x′ z′ w y s kx kz rz rx rx′ rz′ d b c W Y S all under on wa ya sa a ab = rw (all, ← under, ← on, ← wa, ← ya, ← sa) (record { tree = t′; act = a; under = ab })
 
 module _ (v : View) (t : Tree) (i : Carries v t) (pz z x′ z′ j : ℕ) (d b : Bool) (one : v pz .state ≡ 1) (leads : link d (v pz) ≡ z) (nz : z ≡ 0 → ⊥) (inz : v z .left ≡ 0 → ⊥)
     (inx : v (link b (v z)) .left ≡ 0 → ⊥) (ez : v z .rank ≡ suc j) (lx : lv (v z .rank) (v (link b (v z)) .rank) ≡ true) (fx : v x′ .state ≡ 0) (fz : v z′ .state ≡ 0) (up : x′ < z′) where
@@ -159,20 +160,20 @@ module _ (v : View) (t : Tree) (i : Carries v t) (pz z x′ z′ j : ℕ) (d b :
   spot : Leans v t pz z x d b
   spot = leans v t i pz z d b one leads nz inz inx
 
-  pub rotate1-seen : suc j ≤ 28 → suc (v (link (not b) (v x)) .rank) ≤ j → suc (v (link (not b) (v z)) .rank) ≤ j → Changed v settles t (turning (v x .rank) j)
+  pub rotate1-seen : suc j ≤ 28 → suc (v (link (not b) (v x)) .rank) ≤ j → suc (v (link (not b) (v z)) .rank) ≤ j → Changed v settles t pz (turning (v x .rank) j)
   rotate1-seen lim hy hs =
       let p = spot in
       turned v t _ pz z x x′ z′ _ _ _ (v x .number) (v z .number) (suc j) (v x .rank) (v x .rank) j d b (p .c) (p .W) (p .Y) (p .S) (p .whole ∙ ap (λ r. plug (p .c) (lean b z x (v x .number) (v z .number) r (v x .rank) (p .W) (p .Y) (p .S))) ez) (p .under) (p .on) (p .w-at) (p .y-at) (p .s-at)
       (rotates1 (p .c) b z x x′ z′ (v x .number) (v z .number) (v x .rank) j (p .W) (p .Y) (p .S) fx fz up (subst (λ r. lv r (v x .rank) ≡ true) ez lx)
-      (omega (arith, rank-at v (p .Y) _ (p .held .1) (p .y-at))) (omega (arith, rank-at v (p .S) _ (p .held .2) (p .s-at))) lim)
+      (omega (arith, rank-at v (p .Y) _ (p .held .1) (p .y-at))) (omega (arith, rank-at v (p .S) _ (p .held .2) (p .s-at))) lim) (refl {a = parent (p .c)})
 
-  pub rotate2-seen : Shape t → Steady v pz z → suc (suc j) ≤ 28 → v (link (not b) (v x)) .rank ≡ j → v (link b (v x)) .rank ≡ j → suc (v (link (not b) (v z)) .rank) ≤ j → Changed v settles t (turning (suc (v x .rank)) (suc j))
+  pub rotate2-seen : Shape t → Steady v pz z → suc (suc j) ≤ 28 → v (link (not b) (v x)) .rank ≡ j → v (link b (v x)) .rank ≡ j → suc (v (link (not b) (v z)) .rank) ≤ j → Changed v settles t pz (turning (suc (v x .rank)) (suc j))
   rotate2-seen f st lim hy hw hs =
       let p = spot in
       turned v t _ pz z x x′ z′ _ _ _ (v x .number) (v z .number) (suc j) (v x .rank) (suc (v x .rank)) (suc j) d b (p .c) (p .W) (p .Y) (p .S) (p .whole ∙ ap (λ r. plug (p .c) (lean b z x (v x .number) (v z .number) r (v x .rank) (p .W) (p .Y) (p .S))) ez) (p .under) (p .on) (p .w-at) (p .y-at) (p .s-at)
       (rotates2 (p .c) b z x x′ z′ (v x .number) (v z .number) (v x .rank) j (p .W) (p .Y) (p .S) fx fz up (subst (λ r. lv r (v x .rank) ≡ true) ez lx)
       (sym (rank-at v (p .Y) _ (p .held .1) (p .y-at)) ∙ hy) (sym (rank-at v (p .W) _ (p .held .0) (p .w-at)) ∙ hw)
-      (omega (arith, rank-at v (p .S) _ (p .held .2) (p .s-at))) (above (p .c) _ (p .S) (p .whole) (p .under)) lim)
+      (omega (arith, rank-at v (p .S) _ (p .held .2) (p .s-at))) (above (p .c) _ (p .S) (p .whole) (p .under)) lim) (refl {a = parent (p .c)})
     where
       above : (c : Ctx) (X S : Tree) → t ≡ plug c (join b z (v z .number) (v z .rank) X S) → parent c ≡ pz → suc (suc j) ≤ rankC c
       above c X S w e =
@@ -187,11 +188,11 @@ module _ (v : View) (t : Tree) (i : Carries v t) (pz z x′ z′ j : ℕ) (d b :
 
 flattened : (v : View) (t t′ : Tree) (pz z x y y′ x′ z′ w a e s kx ky kz rz rx ry j : ℕ) (d b : Bool) (c : Ctx) (W A B S : Tree)
     → t ≡ plug c (deep b z x y kx ky kz rz rx ry W A B S) → parent c ≡ pz → pside c ≡ d → root W ≡ w → root A ≡ a → root B ≡ e → root S ≡ s
-    → Act v settles (plug c (deep b z x y kx ky kz rz rx ry W A B S))
-    (wrote v c y′ (fresh y′ (sideRec b ky (suc j) x′ z′) ∷ duo b (fresh x′ (sideRec b kx j (root W) (root A))) (fresh z′ (sideRec b kz j (root B) (root S)))) (z ∷ x ∷ y ∷ [])) t′
-    → Changed v settles t (upd (upds (upds v (fill y′ (sideRec b ky (suc j) x′ z′) ∷ freshes (duo b (fresh x′ (sideRec b kx j w a)) (fresh z′ (sideRec b kz j e s))))) (off z ∷ off x ∷ off y ∷ [])) (lead pz d y′))
-flattened v t t′ pz z x y y′ x′ z′ w a e s kx ky kz rz rx ry j d b c W A B S all under on wa aa ba sa act =
-    rw (all, ← under, ← on, ← wa, ← aa, ← ba, ← sa) (record { tree = t′; act = act })
+    → (act : Act v settles (plug c (deep b z x y kx ky kz rz rx ry W A B S))
+    (wrote v c y′ (fresh y′ (sideRec b ky (suc j) x′ z′) ∷ duo b (fresh x′ (sideRec b kx j (root W) (root A))) (fresh z′ (sideRec b kz j (root B) (root S)))) (z ∷ x ∷ y ∷ [])) t′) → aboveAct act ≡ parent c
+    → Changed v settles t pz (upd (upds (upds v (fill y′ (sideRec b ky (suc j) x′ z′) ∷ freshes (duo b (fresh x′ (sideRec b kx j w a)) (fresh z′ (sideRec b kz j e s))))) (off z ∷ off x ∷ off y ∷ [])) (lead pz d y′))
+flattened v t t′ pz z x y y′ x′ z′ w a e s kx ky kz rz rx ry j d b c W A B S all under on wa aa ba sa act ab =
+    rw (all, ← under, ← on, ← wa, ← aa, ← ba, ← sa) (record { tree = t′; act = act; under = ab })
 
 module _ (v : View) (t : Tree) (i : Carries v t) (pz z y′ x′ z′ j : ℕ) (d b : Bool) (one : v pz .state ≡ 1) (leads : link d (v pz) ≡ z) (nz : z ≡ 0 → ⊥) (inz : v z .left ≡ 0 → ⊥) where
   abbrev xx : ℕ
@@ -202,7 +203,7 @@ module _ (v : View) (t : Tree) (i : Carries v t) (pz z y′ x′ z′ j : ℕ) (
 
   pub double-seen : (v xx .left ≡ 0 → ⊥) → (v yy .left ≡ 0 → ⊥) → v z .rank ≡ suc j → lv (v z .rank) (v xx .rank) ≡ true → v yy .rank ≡ j
       → suc (v (link b (v xx)) .rank) ≤ j → suc (v (link (not b) (v z)) .rank) ≤ j → suc j ≤ 28 → v y′ .state ≡ 0 → v x′ .state ≡ 0 → v z′ .state ≡ 0 → Rising b y′ x′ z′
-      → Changed v settles t (upd (upds (upds v (fill y′ (sideRec b (v yy .number) (suc j) x′ z′) ∷ freshes (duo b (fresh x′ (sideRec b (v xx .number) j (link b (v xx)) (link b (v yy))))
+      → Changed v settles t pz (upd (upds (upds v (fill y′ (sideRec b (v yy .number) (suc j) x′ z′) ∷ freshes (duo b (fresh x′ (sideRec b (v xx .number) j (link b (v xx)) (link b (v yy))))
       (fresh z′ (sideRec b (v z .number) j (link (not b) (v yy)) (link (not b) (v z))))))) (off z ∷ off xx ∷ off yy ∷ [])) (lead pz d y′))
   double-seen inx iny ez lx ey hw hs lim fy fx fz up =
       let p = leans v t i pz z d b one leads nz inz inx in
@@ -211,7 +212,7 @@ module _ (v : View) (t : Tree) (i : Carries v t) (pz z y′ x′ z′ j : ℕ) (
       flattened v t _ pz z xx yy y′ x′ z′ _ _ _ _ (v xx .number) (v yy .number) (v z .number) (suc j) (v xx .rank) (v yy .rank) j d b (p .c) (p .W) (q .L) (q .R) (p .S)
       all (p .under) (p .on) (p .w-at) (q .near) (q .far) (p .s-at)
       (doubles (p .c) b z xx yy y′ x′ z′ (v xx .number) (v yy .number) (v z .number) (v xx .rank) (v yy .rank) j (p .W) (q .L) (q .R) (p .S) fy fx fz up (subst (λ r. lv r (v xx .rank) ≡ true) ez lx) ey
-      (omega (arith, rank-at v (p .W) _ (p .held .0) (p .w-at))) (omega (arith, rank-at v (p .S) _ (p .held .2) (p .s-at))) lim)
+      (omega (arith, rank-at v (p .W) _ (p .held .0) (p .w-at))) (omega (arith, rank-at v (p .S) _ (p .held .2) (p .s-at))) lim) (refl {a = parent (p .c)})
 
 -- ---- take-out: the record on side b of p is a leaf
 
@@ -222,15 +223,15 @@ leaf-number v (node x kx rx l r) k pr rk eq h = absurd (let z : _≡_ {A = ℕ} 
 
 taken-out : (v : View) (t : Tree) (g p kp rp l kl pl rl s s′ : ℕ) (d b : Bool) (c : Ctx) (X S : Tree) → Holds v X
     → t ≡ plug c (join b p kp rp X S) → X ≡ leaf (root X) kl pl rl → root X ≡ l → parent c ≡ g → pside c ≡ d → root S ≡ s → v s′ .state ≡ 0 → v l .number < 1000000
-    → Changed v (takes-out (v l .number)) t (upds v (fill s′ (v s) ∷ off p ∷ off l ∷ off s ∷ lead g d s′ ∷ []))
+    → Changed v (takes-out (v l .number)) t g (upds v (fill s′ (v s) ∷ off p ∷ off l ∷ off s ∷ lead g d s′ ∷ []))
 taken-out v t g p kp rp l kl pl rl s s′ d b c X S held whole lf near under on sa free fare =
     let e : v l .number ≡ kl = ap (λ y. v y .number) (sym near) ∙ leaf-number v X kl pl rl lf held in
     rw (e, whole ∙ ap (λ q. plug c (join b p kp rp q S)) (lf ∙ ap (λ y. leaf y kl pl rl) near), ← under, ← on, ← sa)
-    (record { tree = plug c (renew s′ S); act = takes c b p kp rp l kl pl rl s′ S free (omega arith) })
+    (record { tree = plug c (renew s′ S); act = takes c b p kp rp l kl pl rl s′ S free (omega arith); under = refl })
 
 pub take-seen : (v : View) (t : Tree) → Carries v t → (g p s′ : ℕ) (d b : Bool) → v g .state ≡ 1 → link d (v g) ≡ p → (p ≡ 0 → ⊥) → (v p .left ≡ 0 → ⊥)
     → v (link b (v p)) .left ≡ 0 → v (link b (v p)) .number < 1000000 → v s′ .state ≡ 0
-    → Changed v (takes-out (v (link b (v p)) .number)) t (upds v (fill s′ (v (link (not b) (v p))) ∷ off p ∷ off (link b (v p)) ∷ off (link (not b) (v p)) ∷ lead g d s′ ∷ []))
+    → Changed v (takes-out (v (link b (v p)) .number)) t g (upds v (fill s′ (v (link (not b) (v p))) ∷ off p ∷ off (link b (v p)) ∷ off (link (not b) (v p)) ∷ lead g d s′ ∷ []))
 take-seen v t i g p s′ d b one leads nz inp end fare free =
     let q = place v t i g p d b one leads nz inp in
     let lf = is-leaf v (hole b p (v p .number) (v p .rank) (q .S) (q .c)) (q .X) (rw (q .whole) at i) (ap (λ y. v y .left) (q .near) ∙ end) in

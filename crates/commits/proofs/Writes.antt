@@ -11,11 +11,11 @@ use Rattle.routes.proofs.Kept.{Fate, alike, relinked, taken, unused}
 use Rattle.routes.proofs.Level.{times}
 use Rattle.routes.proofs.Surgery.{Off, in-tree}
 use Rattle.terms.specs.declared.Rec.{Rec}
-use Rattle.trees.proofs.Held.{Carries, at-place, ind-le, occC-entry, occC-parent, one-at, one-fresh, one-lead, one-off}
+use Rattle.trees.proofs.Held.{Carries, at-place, ind-le, occC-entry, occC-parent, one-at, one-fresh, one-lead, one-off, root-occ}
 use Rattle.trees.proofs.Plug.{apart, frame, ind-cases, ind-eq, ind-other, ind-same, occ-plug, pos-cases, put-together, relink}
-use Rattle.trees.specs.Tree.{Ctx, Holds, Tree, ind, join, occ, occC, parent, plug, pside, root, sideRec}
+use Rattle.trees.specs.Tree.{Ctx, Holds, HoldsC, Tree, hole, ind, join, occ, occC, parent, plug, pside, root, sideRec, top}
 use Rattle.views.proofs.Law.{same-or, upd-hit, upd-miss}
-use Rattle.views.specs.Update.{taken-off, upd, upds, with-link}
+use Rattle.views.specs.Update.{link, taken-off, upd, upds, with-link}
 
 -- one place of the tree is replaced: what stands there now, the link above, the rest untouched, and the count of the slots in state 1
 pub splice : (v w : View) (c : Ctx) (t t′ : Tree) → Carries v (plug c t)
@@ -112,6 +112,12 @@ holds-join v false s k rk t u h = (h .0, h .2, h .1)
 pub join-holds : (v : View) (b : Bool) (s k rk : ℕ) (t u : Tree) → v s ≡ sideRec b k rk (root t) (root u) → Holds v t → Holds v u → Holds v (join b s k rk t u)
 join-holds v true s k rk t u e h g = (e, h, g)
 join-holds v false s k rk t u e h g = (e, g, h)
+
+-- the link above a hole leads into it
+linked-hole : (v : View) (c : Ctx) (h : ℕ) → HoldsC v c h → link (pside c) (v (parent c)) ≡ h
+linked-hole v top h g = ap (λ r. r .left) g
+linked-hole v (hole true s k rk u c) h g = ap (λ r. r .left) (g .0)
+linked-hole v (hole false s k rk u c) h g = ap (λ r. r .right) (g .0)
 
 -- ---- what the lists have to be: fresh slots rise, and are free
 
@@ -256,8 +262,15 @@ module _ (v : View) (c : Ctx) (old new : Tree) (N : List Fresh) (R : List ℕ) (
       parent-one : v (parent c) .state ≡ 1
       parent-one = one (parent c) (omega (arith, base (parent c), occC-parent c, ind-le (v (parent c) .state) 1))
 
+      -- the old child is no slot 0
+      had-link : link (pside c) (v (parent c)) ≡ 0 → ⊥
+      had-link z = root-pos′ (linked-hole v c (root old) (at-place v c old i .0)) z
+        where
+          root-pos′ : link (pside c) (v (parent c)) ≡ root old → link (pside c) (v (parent c)) ≡ 0 → ⊥
+          root-pos′ e y = let q : 1 ≤ occ 0 old = rw (sym e ∙ y) at (root-occ old) in omega (arith, base 0, occC-entry c, ind-le (v 0 .state) 1)
+
       parent-fate : Fate v (v (parent c)) (after (parent c))
-      parent-fate = relinked parent-one (pside c) (root new) (m .top-free) at-parent
+      parent-fate = relinked parent-one (pside c) (root new) (m .top-free) had-link at-parent
 
   pub commit-ran : (s : ℕ) → 1 ≤ occ s new → wrote v c (root new) N R s .state ≡ 1
   commit-ran s h = in-tree after (plug c new) s commit-inv (omega (arith, occ-plug s c new, entry-in c s))

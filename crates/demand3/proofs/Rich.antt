@@ -226,14 +226,14 @@ module _ {p : Point} (s : Stands p) (x : Extra (s .n) (s .tree) p) where
     settle-level (rotates2 c b z y x′ z′ kx kz rx k W Y S fx fz xz lx hy hw hs up lim) = refl
     settle-level (doubles c b z y w y′ x′ z′ kx ky kz rx ry k W A B S fy fx fz up lx ey hw hs lim) = refl
 
-    take-extra : (ws : List Write) → Within (s .n) ws → goalOf f ≡ Serve TakeOut → (ch : Changed v (takes-out (j .number)) (s .tree) (upds v ws))
+    take-extra : (ws : List Write) → Within (s .n) ws → goalOf f ≡ Serve TakeOut → (ch : Changed v (takes-out (j .number)) (s .tree) (aboveOf f) (upds v ws))
         → Extra (s .n) (ch .tree) (record { table = puts (p .table) ws; state = stored i idleTask (st .m + 0) (st .u + 0); account = a })
     take-extra ws inside g ch =
         wrote-extra ws inside (ch .tree) idleTask (st .m + 0) (st .u + 0)
         (rw (zero-u, cast-same T i other (was-serving TakeOut g)) (commit-owners ws inside (ch .tree) (ch .act) (take-level (ch .act))))
         (phi-after ws inside (ch .tree) (ch .act) (st .m + 0) (omega arith)) (sents-after ws inside (ch .tree) (ch .act))
 
-    settle-extra : (ws : List Write) → Within (s .n) ws → goalOf f ≡ Settle → (ch : Changed v settles (s .tree) (upds v ws))
+    settle-extra : (ws : List Write) → Within (s .n) ws → goalOf f ≡ Settle → (ch : Changed v settles (s .tree) (aboveOf f) (upds v ws))
         → Extra (s .n) (ch .tree) (record { table = puts (p .table) ws; state = stored i (busy j (Start Settle)) (st .m + 0) (st .u + 0); account = a })
     settle-extra ws inside g ch =
         let r = settle-role (j .number) f g in

@@ -67,7 +67,7 @@ pub record Pair (v : View) (g z x o : ℕ) (e b : Bool) : Type 0 where
 -- ---- promote
 
 pub promote-pair : (v : View) (t : Tree) → Carries v t → Shape t → (g z x o i l r : ℕ) (e b : Bool) → Pair v g z x o e b → l ≡ v z .left → r ≡ v z .right
-    → v z .rank ≤ suc (v o .rank) → v z .rank < 28 → v i .state ≡ 0 → Changed v settles t (upds v (fill i (innerOf (v z .number) (v z .rank + 1) l r) ∷ off z ∷ lead g e i ∷ []))
+    → v z .rank ≤ suc (v o .rank) → v z .rank < 28 → v i .state ≡ 0 → Changed v settles t g (upds v (fill i (innerOf (v z .number) (v z .rank + 1) l r) ∷ off z ∷ lead g e i ∷ []))
 promote-pair v t c f g z x o i l r e b p el er near lim free =
     let more : v z .rank + 1 ≡ suc (v z .rank) = omega arith in
     rw (el, er, more, ← (side-both b (v z .number) (suc (v z .rank)) (v z)))
@@ -80,13 +80,13 @@ module _ (v : View) (t : Tree) (c : Carries v t) (f : Shape t) (g z x o y w i k 
   abbrev rotating : ℕ → ℕ → List Write
   rotating rx rz = fill i (sided b (v x .number) rx w k) ∷ fill k (sided b (v z .number) rz y o) ∷ off z ∷ off x ∷ lead g e i ∷ []
 
-  pub rotate1-pair : suc (v y .rank) ≤ j → (rz : ℕ) → rz ≡ j → Changed v settles t (upds v (rotating (v x .rank) rz))
+  pub rotate1-pair : suc (v y .rank) ≤ j → (rz : ℕ) → rz ≡ j → Changed v settles t g (upds v (rotating (v x .rank) rz))
   rotate1-pair hy rz ez =
       rw (ez, sided-is b (v x .number) (v x .rank) w k, sided-is b (v z .number) j y o, to-w, to-y, p .to-o, ← (p .to-x))
       (rotate1-seen v t c g z i k j e b (p .above) (p .to-z) (p .z-pos) (p .inner) (rw (p .to-x) inner-x) is (rw (p .to-x) (p .levels)) fi fk up
       (omega (arith, p .ranks, p .small)) (rw (p .to-x, ← to-y) hy) (rw (← (p .to-o)) far))
 
-  pub rotate2-pair : v x .rank < 28 → v y .rank ≡ j → v w .rank ≡ j → (rx : ℕ) → rx ≡ suc (v x .rank) → Changed v settles t (upds v (rotating rx (v z .rank)))
+  pub rotate2-pair : v x .rank < 28 → v y .rank ≡ j → v w .rank ≡ j → (rx : ℕ) → rx ≡ suc (v x .rank) → Changed v settles t g (upds v (rotating rx (v z .rank)))
   rotate2-pair lim hy hw rx er =
       rw (er, is, sided-is b (v x .number) (suc (v x .rank)) w k, sided-is b (v z .number) (suc j) y o, to-w, to-y, p .to-o, ← (p .to-x))
       (rotate2-seen v t c g z i k j e b (p .above) (p .to-z) (p .z-pos) (p .inner) (rw (p .to-x) inner-x) is (rw (p .to-x) (p .levels)) fi fk up
@@ -104,7 +104,7 @@ module _ (v : View) (t : Tree) (c : Carries v t) (g z x o y w a d i k l j : ℕ)
   pub double-pair : (b : Bool) → Pair v g z x o e b → w ≡ link b (v x) → y ≡ link (not b) (v x) → a ≡ link b (v y) → d ≡ link (not b) (v y)
       → (v x .left ≡ 0 → ⊥) → (v y .left ≡ 0 → ⊥) → v z .rank ≡ suc j → suc (v o .rank) ≤ j → v y .rank ≡ j → suc (v w .rank) ≤ j
       → v i .state ≡ 0 → v k .state ≡ 0 → v l .state ≡ 0 → i < k → k < l
-      → (ry rx rz : ℕ) → ry ≡ suc j → rx ≡ j → rz ≡ j → Changed v settles t (upds v (doubling b ry rx rz))
+      → (ry rx rz : ℕ) → ry ≡ suc j → rx ≡ j → rz ≡ j → Changed v settles t g (upds v (doubling b ry rx rz))
   unfolding ifB
   double-pair true p to-w to-y to-a to-d inner-x inner-y is far hy hw fi fk fl ik kl ry rx rz er ex ez =
       rw (er, ex, ez, sided-is true (v x .number) j w a, sided-is true (v z .number) j d o, to-a, to-d, to-w, to-y, p .to-o, ← (p .to-x))

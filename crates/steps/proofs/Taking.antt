@@ -45,7 +45,7 @@ child-here v b s h = go (eqb (b .left) s) refl (both-second (not (eqb s 0)) _ h)
 -- the commit, over plain slots: the leaf h on side b of p, the sibling o on the other
 seen-at : (v : View) (t : Tree) → Carries v t → (k g p h o x : ℕ) (e b : Bool) → k < 1000000 → v g .state ≡ 1 → link e (v g) ≡ p → (p ≡ 0 → ⊥) → (v p .left ≡ 0 → ⊥)
     → link b (v p) ≡ h → o ≡ link (not b) (v p) → v h .left ≡ 0 → v h .number ≡ k → v x .state ≡ 0
-    → Changed v (takes-out k) t (upds v (fill x (v o) ∷ off p ∷ off h ∷ off o ∷ lead g e x ∷ []))
+    → Changed v (takes-out k) t g (upds v (fill x (v o) ∷ off p ∷ off h ∷ off o ∷ lead g e x ∷ []))
 seen-at v t i k g p h o x e b lt one to nz inner on beside end is free =
     rw (beside, ← is, ← on) (take-seen v t i g p x e b one to nz inner (ap (λ y. v y .left) on ∙ end) (rw (on, is) lt) free)
 
@@ -59,7 +59,7 @@ module _ (v : View) (t : Tree) (i : Carries v t) (n m : ℕ) (j : Job) (lt : j .
   module _ (a b c d : Links) (one : gr .state ≡ 1) (to-par : link (eqb (a .left) (q .parent)) gr ≡ q .parent) (nz : q .parent ≡ 0 → ⊥) (inner : par .left ≡ 0 → ⊥)
       (to-leaf : link (eqb (b .left) (q .here)) par ≡ q .here) (beside : other b (q .here) ≡ link (not (eqb (b .left) (q .here))) par)
       (end : v (q .here) .left ≡ 0) (is : v (q .here) .number ≡ j .number) where
-    seen : slot1 v n < n → Changed v (takes-out (j .number)) t (upds v (takeWrites q (eqb (a .left) (q .parent)) (v (other b (q .here))) (other b (q .here)) (slot1 v n)))
+    seen : slot1 v n < n → Changed v (takes-out (j .number)) t (q .grand) (upds v (takeWrites q (eqb (a .left) (q .parent)) (v (other b (q .here))) (other b (q .here)) (slot1 v n)))
     seen room =
         seen-at v t i (j .number) (q .grand) (q .parent) (q .here) (other b (q .here)) (slot1 v n) (eqb (a .left) (q .parent)) (eqb (b .left) (q .here)) lt one to-par nz inner
         to-leaf beside end is (one-free v n room)

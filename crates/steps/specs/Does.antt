@@ -42,6 +42,14 @@ walks (PuttingIn q s) = false
 walks (TakingOut q s) = false
 walks (Settling q s) = false
 
+-- the record above the place that a commit changes
+abbrev pub aboveOf : Phase → ℕ
+aboveOf (Start g) = 0
+aboveOf (Walk g q) = 0
+aboveOf (PuttingIn q s) = q .parent
+aboveOf (TakingOut q s) = q .grand
+aboveOf (Settling q s) = q .grand
+
 -- a settling task that walks on goes to the next record, and past no level one
 abbrev pub Moves : View → ℕ → Phase → Phase → Type 0
 Moves v k f (Start g) = Unit {0}
@@ -76,7 +84,7 @@ pub data Does (v : View) (t : Tree) (m : ℕ) (j : Job) (f : Phase) : Did → Ty
   rests : (a : Turn) → Quiet v t j f a → Does v t m j f (calm a)
   put-commits : (b : Bool) (ws : List Write) → m < 1000000 → goalOf f ≡ Serve PutIn → PutChanged v (j .number) (j .price) t (upds v ws) b
       → Does v t m j f (record { turn = turnOfPut j b; committed = true; writes = ws })
-  take-commits : (ws : List Write) → goalOf f ≡ Serve TakeOut → Changed v (takes-out (j .number)) t (upds v ws)
+  take-commits : (ws : List Write) → goalOf f ≡ Serve TakeOut → Changed v (takes-out (j .number)) t (aboveOf f) (upds v ws)
       → Does v t m j f (record { turn = Done TakenOut; committed = false; writes = ws })
-  settle-commits : (ws : List Write) → goalOf f ≡ Settle → Changed v settles t (upds v ws)
+  settle-commits : (ws : List Write) → goalOf f ≡ Settle → Changed v settles t (aboveOf f) (upds v ws)
       → Does v t m j f (record { turn = Next (busy j (Start Settle)); committed = false; writes = ws })
