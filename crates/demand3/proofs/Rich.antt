@@ -32,7 +32,7 @@ use Rattle.potential.proofs.Acts.{act-phi, pays}
 use Rattle.potential.specs.Potential.{phi}
 use Rattle.routes.proofs.Level.{lv-not-255, lvs-not}
 use Rattle.routes.specs.Route.{Has, lv, route}
-use Rattle.steps.specs.Does.{Does, Moves, Quiet, goes, hurts, leaves, put-commits, rests, settle-commits, settled, standing, stops, take-commits, turnOfPut}
+use Rattle.steps.specs.Does.{Does, Moves, Quiet, aboveOf, goes, hurts, leaves, put-commits, rests, settle-commits, settled, standing, stops, take-commits, turnOfPut}
 use Rattle.steps.specs.Trail.{WorkOk}
 use Rattle.terms.specs.Task.{busy, goalOf, idleTask}
 use Rattle.terms.specs.declared.Goal.{Goal}
