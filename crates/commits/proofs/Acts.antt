@@ -85,6 +85,7 @@ pub record Proper {v : View} {kind : Kind} {t : Tree} {w : View} {t′ : Tree} (
   pub y : ℕ
   pub surgery : Surgery v w t t′ x y
   pub shape : Shape t′
+  pub free : v x .state ≡ 0
   pub from : levelPut act ≡ false → From t t′ x y
   pub level : levelPut act ≡ true → (1 ≤ levAt 255 x t′) × Has y (route (putNumber kind) t)
 
@@ -95,6 +96,7 @@ pub proper : {v w : View} {kind : Kind} {t t′ : Tree} (act : Act v kind t w t�
 proper {v} (puts c k p h kh ph rh a l m RK kl pl rl km pm rm fa fl fm al lm r two fits on) i f = record {
   x = a;
   y = h;
+  free = fa;
   surgery = put-surgery v c h kh ph rh a l m km RK kl pl rl km pm rm i fa fl fm al lm (fits .low-apart) (fits .high-apart);
   from = λ e. put-apart v c h kh ph rh a l m km RK kl pl rl km pm rm i fa fl fm al lm (fits .low-apart) (fits .high-apart) (no-level (rankC c) RK e);
   level = λ e. (put-level v c h kh ph rh a l m km RK kl pl rl km pm rm i fa fl fm al lm e, on);
@@ -106,6 +108,7 @@ proper {v} (takes c b p kp rp l kl pl rl s′ S free fare) i f =
     record {
       x = s′;
       y = root S;
+      free = free;
       surgery = take-surgery v c b p kp rp l kl pl rl s′ S i free (r .1) (omega (arith, t .under, rank-join b p kp rp (leaf l kl pl rl) S)) .0;
       from = λ e. take-surgery v c b p kp rp l kl pl rl s′ S i free (r .1) (omega (arith, t .under, rank-join b p kp rp (leaf l kl pl rl) S)) .1;
       level = no-put;
@@ -116,6 +119,7 @@ proper {v} (promotes c b z z′ key r X S free lx near up lim) i f =
     record {
       x = z′;
       y = root X;
+      free = free;
       surgery = promote-surgery v c b z z′ key r X S i free lx (ranked-join b z key r X S (t .ranks) .1) .0;
       from = λ e. promote-surgery v c b z z′ key r X S i free lx (ranked-join b z key r X S (t .ranks) .1) .1;
       level = no-put;
@@ -128,6 +132,7 @@ proper {v} (rotates1 c b z x x′ z′ kx kz rx j W Y S fx fz xz lx hy hs lim) i
     record {
       x = x′;
       y = x;
+      free = fx;
       surgery = rotate1-surgery v c b z x x′ z′ kx kz (suc j) rx rx j W Y S i fx fz xz j (rotate-toward b (low c) (high c) z x kx kz (suc j) rx W Y S (t .within)) lx refl refl refl hy hs .0;
       from = λ e. rotate1-surgery v c b z x x′ z′ kx kz (suc j) rx rx j W Y S i fx fz xz j (rotate-toward b (low c) (high c) z x kx kz (suc j) rx W Y S (t .within)) lx refl refl refl hy hs .1;
       level = no-put;
@@ -141,6 +146,7 @@ proper {v} (rotates2 c b z x x′ z′ kx kz rx j W Y S fx fz xz lx hy hw hs up 
     record {
       x = x′;
       y = x;
+      free = fx;
       surgery = rotate2-surgery v c b z x x′ z′ kx kz (suc j) rx (suc rx) (suc j) W Y S i fx fz xz j (rotate-toward b (low c) (high c) z x kx kz (suc j) rx W Y S (t .within)) lx refl refl refl hy hw .0;
       from = λ e. rotate2-surgery v c b z x x′ z′ kx kz (suc j) rx (suc rx) (suc j) W Y S i fx fz xz j (rotate-toward b (low c) (high c) z x kx kz (suc j) rx W Y S (t .within)) lx refl refl refl hy hw .1;
       level = no-put;
@@ -153,6 +159,7 @@ proper {v} (doubles c b z x y y′ x′ z′ kx ky kz rx ry j W A B S fy fx fz u
     record {
       x = y′;
       y = x;
+      free = fy;
       surgery = double-surgery v c b z x y y′ x′ z′ kx ky kz (suc j) rx ry j W A B S i fy fx fz up (o .0) (o .1) lx ey hw hs .0;
       from = λ e. double-surgery v c b z x y y′ x′ z′ kx ky kz (suc j) rx ry j W A B S i fy fx fz up (o .0) (o .1) lx ey hw hs .1;
       level = no-put;

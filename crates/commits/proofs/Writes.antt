@@ -146,7 +146,7 @@ all-free v [] f s h = absurd (omega arith)
 all-free v (m ∷ N) f s h = elim (ind-cases s (m .slot)) [ inl q ↦ subst (λ y. v y .state ≡ 0) (sym (q .0)) (f .0) | inr q ↦ all-free v N (f .1) s (omega (arith, q .1)) ]
 
 -- the entry stands in the surroundings
-entry-in : (c : Ctx) (s : ℕ) → ind s 0 ≤ occC s c
+pub entry-in : (c : Ctx) (s : ℕ) → ind s 0 ≤ occC s c
 entry-in c s = elim (ind-cases s 0) [ inl q ↦ omega (arith, q .1, subst (λ y. 1 ≤ occC y c) (sym (q .0)) (occC-entry c)) | inr q ↦ omega (arith, q .1) ]
 
 -- a part of the old tree is held on
@@ -246,10 +246,16 @@ module _ (v : View) (c : Ctx) (old new : Tree) (N : List Fresh) (R : List ℕ) (
   pub commit-off : (s : ℕ) → 1 ≤ times s R → Off (wrote v c (root new) N R) s
   commit-off s h = ap (λ r. r .state) (was-off s h)
 
+  -- a fresh slot is in state 1 after it
+  one-after : (s : ℕ) → 1 ≤ times s (slots N) → wrote v c (root new) N R s .state ≡ 1
+  one-after s h =
+      let z : one-at after s ≡ 1 = omega (arith, counted s, m .count s, m .once s, no-one s h, base s, m .from-old s) in
+      elim (same-or (after s .state) 1) [ inl e ↦ e | inr d ↦ absurd (omega (arith, ind-other (after s .state) 1 d)) ]
+
   pub commit-fate : (s : ℕ) → Fate v (v s) (wrote v c (root new) N R s)
   commit-fate s =
       elim (pos-cases (times s (slots N))) [
-        | inl p ↦ unused (m .free s p)
+        | inl p ↦ unused (m .free s p) (one-after s p)
         | inr z ↦ (elim (pos-cases (times s R)) [
           | inl p ↦ taken (one s (old-one s p)) (was-off s p)
           | inr o ↦ (elim (same-or s (parent c)) [
@@ -262,6 +268,13 @@ module _ (v : View) (c : Ctx) (old new : Tree) (N : List Fresh) (R : List ℕ) (
       parent-one : v (parent c) .state ≡ 1
       parent-one = one (parent c) (omega (arith, base (parent c), occC-parent c, ind-le (v (parent c) .state) 1))
 
+      -- a free slot is not the entry's
+      not-entry : root new ≡ 0 → ⊥
+      not-entry e =
+          let z : v 0 .state ≡ 0 = ap (λ y. v y .state) (sym e) ∙ m .top-free in
+          let y : one-at v 0 ≡ 0 = rw z in
+          omega (arith, base 0, occC-entry c)
+
       -- the old child is no slot 0
       had-link : link (pside c) (v (parent c)) ≡ 0 → ⊥
       had-link z = root-pos′ (linked-hole v c (root old) (at-place v c old i .0)) z
@@ -270,7 +283,7 @@ module _ (v : View) (c : Ctx) (old new : Tree) (N : List Fresh) (R : List ℕ) (
           root-pos′ e y = let q : 1 ≤ occ 0 old = rw (sym e ∙ y) at (root-occ old) in omega (arith, base 0, occC-entry c, ind-le (v 0 .state) 1)
 
       parent-fate : Fate v (v (parent c)) (after (parent c))
-      parent-fate = relinked parent-one (pside c) (root new) (m .top-free) had-link at-parent
+      parent-fate = relinked parent-one (pside c) (root new) (m .top-free) not-entry had-link at-parent
 
   pub commit-ran : (s : ℕ) → 1 ≤ occ s new → wrote v c (root new) N R s .state ≡ 1
   commit-ran s h = in-tree after (plug c new) s commit-inv (omega (arith, occ-plug s c new, entry-in c s))

@@ -65,12 +65,12 @@ walk-one v k (via s rk l) b w (inr h) = walk-one v k l b (w .4) h
 
 -- ---- what a commit does to one record
 
--- a link is only ever led to a slot that was free in v, and only where there was a link
+-- a free slot is taken for a record of the tree; a link is only ever led to a slot that was free in v, and only where there was a link
 pub data Fate (v : View) (r r′ : Rec) : Type 0 where
-  unused : r .state ≡ 0 → Fate v r r′
+  unused : r .state ≡ 0 → r′ .state ≡ 1 → Fate v r r′
   alike : r′ ≡ r → Fate v r r′
   taken : r .state ≡ 1 → r′ ≡ taken-off r → Fate v r r′
-  relinked : r .state ≡ 1 → (b : Bool) (a : ℕ) → v a .state ≡ 0 → (link b r ≡ 0 → ⊥) → r′ ≡ with-link b a r → Fate v r r′
+  relinked : r .state ≡ 1 → (b : Bool) (a : ℕ) → v a .state ≡ 0 → (a ≡ 0 → ⊥) → (link b r ≡ 0 → ⊥) → r′ ≡ with-link b a r → Fate v r r′
 
 -- one link changed: state and rank stay
 pub with-same : (b : Bool) (a : ℕ) (r : Rec) → (with-link b a r .state ≡ r .state) × (with-link b a r .rank ≡ r .rank)
@@ -78,24 +78,24 @@ with-same true a r = (refl, refl)
 with-same false a r = (refl, refl)
 
 pub frozen : {v : View} {r r′ : Rec} → Fate v r r′ → r .state ≡ 2 → r′ ≡ r
-frozen (unused z) e = absurd (omega (arith, z, e))
+frozen (unused z f) e = absurd (omega (arith, z, e))
 frozen (alike q) e = q
 frozen (taken o q) e = absurd (omega (arith, o, e))
-frozen (relinked o b a z l q) e = absurd (omega (arith, o, e))
+frozen (relinked o b a z y l q) e = absurd (omega (arith, o, e))
 
 pub stays-used : {v : View} {r r′ : Rec} → Fate v r r′ → (r .state ≡ 0 → ⊥) → (r′ .rank ≡ r .rank) × (r′ .state ≡ 0 → ⊥)
-stays-used (unused z) n = absurd (n z)
+stays-used (unused z f) n = absurd (n z)
 stays-used (alike q) n = (ap (λ r. r .rank) q, λ z. n (sym (ap (λ r. r .state) q) ∙ z))
 stays-used (taken o q) n = (ap (λ r. r .rank) q, λ z. omega (arith, sym (ap (λ r. r .state) q) ∙ z))
-stays-used {r = r} (relinked o b a f l q) n =
+stays-used {r = r} (relinked o b a f y l q) n =
     let s = with-same b a r in
     (ap (λ r. r .rank) q ∙ s .1, λ z. n (sym (ap (λ r. r .state) q ∙ s .0) ∙ z))
 
 pub one-or-off : {v : View} {r r′ : Rec} → Fate v r r′ → r .state ≡ 1 → (r′ .state ≡ 1) ⊎ (r′ ≡ taken-off r)
-one-or-off (unused z) e = absurd (omega (arith, z, e))
+one-or-off (unused z f) e = absurd (omega (arith, z, e))
 one-or-off (alike q) e = inl (ap (λ r. r .state) q ∙ e)
 one-or-off (taken o q) e = inr q
-one-or-off {r = r} (relinked o b a f l q) e = inl (ap (λ r. r .state) q ∙ with-same b a r .0 ∙ e)
+one-or-off {r = r} (relinked o b a f y l q) e = inl (ap (λ r. r .state) q ∙ with-same b a r .0 ∙ e)
 
 module _ (v w : View) (fate : (y : ℕ) → Fate v (v y) (w y)) (k : ℕ) where
   -- a record that is taken off, or was, leads where it led

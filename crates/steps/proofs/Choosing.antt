@@ -44,13 +44,13 @@ use Rattle.trees.specs.Tree.{Tree}
 use Rattle.views.specs.Update.{link}
 
 module _ (v : View) (t : Tree) (i : Carries v t) (sh : Shape t) (n m : ℕ) (j : Job) (q : Path) (up : Upper v q) where
-  abbrev g : ℕ
+  abbrev pub g : ℕ
   g = q .grand
 
-  abbrev z : ℕ
+  abbrev pub z : ℕ
   z = q .parent
 
-  abbrev x : ℕ
+  abbrev pub x : ℕ
   x = q .here
 
   abbrev Acts : SettleStage → Did → Type 0
@@ -64,20 +64,20 @@ module _ (v : View) (t : Tree) (i : Carries v t) (sh : Shape t) (n m : ℕ) (j :
   too-few s = rests _ (leaves refl)
 
   module _ (a b : Links) where
-    abbrev side-z : Bool
+    abbrev pub side-z : Bool
     side-z = eqb (a .left) z
 
-    abbrev side-x : Bool
+    abbrev pub side-x : Bool
     side-x = eqb (b .left) x
 
-    abbrev o : ℕ
+    abbrev pub o : ℕ
     o = other b x
 
-    abbrev Seen : Type 0
+    abbrev pub Seen : Type 0
     Seen = Pair v g z x o side-z side-x
 
     -- z, x and s are well formed; grounds and test of a commit with two records read
-    pair-found : chooseFormed n q b (v z) (v x) (v o) ≡ true → groundsTwo n q a b (v g) (v z) (v x) ≡ true → testTwo a b (v g) (v z) ≡ true → Seen
+    pub pair-found : chooseFormed n q b (v z) (v x) (v o) ≡ true → groundsTwo n q a b (v g) (v z) (v x) ≡ true → testTwo a b (v g) (v z) ≡ true → Seen
     unfolding chooseFormed groundsTwo testTwo
     pair-found form gr te =
         let f₁ = both (wellFormed n z (v z)) _ form in

@@ -34,7 +34,7 @@ use Rattle.trees.specs.Tree.{Tree}
 use Rattle.views.specs.Update.{link, upds}
 
 -- the child that is remembered, among the two by the noted links
-child-here : (v : View) (b : Links) (s : ℕ) → leads b s ≡ true → ifB (eqb (b .left) s) (v (b .left)) (v (b .right)) ≡ v s
+pub child-here : (v : View) (b : Links) (s : ℕ) → leads b s ≡ true → ifB (eqb (b .left) s) (v (b .left)) (v (b .right)) ≡ v s
 unfolding leads ifB
 child-here v b s h = go (eqb (b .left) s) refl (both-second (not (eqb s 0)) _ h)
   where

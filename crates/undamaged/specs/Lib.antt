@@ -1,0 +1,4 @@
+pub mod Calm
+pub mod Records
+pub mod Memory
+pub mod Safe

@@ -1,0 +1,1 @@
+// From a reset nothing is ever damaged. No code.
