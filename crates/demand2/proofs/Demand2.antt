@@ -6,9 +6,10 @@ use mathlib.Core.List.{List, [], _∷_}
 use mathlib.Core.Path.{_∙_, _≡_, ap, refl, subst, sym}
 use native.Mathlib.Omega.{arith}
 use Rattle.demand2.proofs.Fresh.{reset-is, stands-fresh}
-use Rattle.demand2.proofs.Happens.{happens, reach-is, the-seen}
 use Rattle.demand2.proofs.Keeps.{stands-on}
 use Rattle.demand2.proofs.Lengths.{fits-of}
+use Rattle.demand2.proofs.Passes.{passing}
+use Rattle.demand2.proofs.Seen.{reach-is, the-seen}
 use Rattle.demand2.proofs.Stands.{Stands, fits-is, sound-is}
 use Rattle.demand2.specs.Demand2.{Demand-2, Kept, heldAt}
 use Rattle.fares.proofs.Lists.{tree-sorted}
@@ -27,7 +28,8 @@ use Rattle.trees.specs.Order.{ALL}
 
 -- every call keeps it
 pub keeps : {p : Point} → Stands p → (c : Ask) → Stands (advance real p c)
-keeps s c = stands-on s (happens s c)
+unfolding advance
+keeps s c = stands-on s (passing s c .passes)
 
 pub keeps-all : {p : Point} → Stands p → (cs : List Ask) → Stands (goes real p cs)
 unfolding goes

@@ -40,13 +40,13 @@ module _ (l n : ℕ) (e : l ≡ n * 6) (least : 8 ≤ n) (most : n ≤ 4096) whe
   unfolding emptyTable zeros
   fresh-view = view-law n zeros fresh-writes (length-replicate l 0 ∙ e) (omega arith, (omega arith, tt))
 
-  at-entry : view n (emptyTable l) 0 ≡ entryRec
+  pub at-entry : view n (emptyTable l) 0 ≡ entryRec
   at-entry = ap (λ w. w 0) fresh-view ∙ upd-miss (upd (view n zeros) (fill 0 entryRec)) (fill 1 firstLeaf) 0 (λ q. omega arith) ∙ upd-hit (view n zeros) (fill 0 entryRec) 0 refl
 
-  at-leaf : view n (emptyTable l) 1 ≡ firstLeaf
+  pub at-leaf : view n (emptyTable l) 1 ≡ firstLeaf
   at-leaf = ap (λ w. w 1) fresh-view ∙ upd-hit (upd (view n zeros) (fill 0 entryRec)) (fill 1 firstLeaf) 1 refl
 
-  elsewhere : (x : ℕ) → (x ≡ 0 → ⊥) → (x ≡ 1 → ⊥) → view n (emptyTable l) x ≡ freeRec
+  pub elsewhere : (x : ℕ) → (x ≡ 0 → ⊥) → (x ≡ 1 → ⊥) → view n (emptyTable l) x ≡ freeRec
   unfolding zeros
   elsewhere x a b =
       ap (λ w. w x) fresh-view ∙ upd-miss (upd (view n zeros) (fill 0 entryRec)) (fill 1 firstLeaf) x b ∙ upd-miss (view n zeros) (fill 0 entryRec) x a ∙ zeros-free n l x
@@ -67,11 +67,15 @@ module _ (l n : ℕ) (e : l ≡ n * 6) (least : 8 ≤ n) (most : n ≤ 4096) whe
     ];
   }
 
+  pub fresh-size : length (emptyTable l) ≡ n * 6
+  unfolding emptyTable
+  fresh-size = length-law n (replicate l 0) fresh-writes (length-replicate l 0 ∙ e)
+
   pub stands-fresh : Stands (record { table = emptyTable l; state = freshState; account = opening })
   unfolding emptyTable countOpen settling leafFares ifB
   stands-fresh = record {
     n = n;
-    size = length-law n (replicate l 0) fresh-writes (length-replicate l 0 ∙ e);
+    size = fresh-size;
     least = least;
     most = most;
     tree = first;
@@ -88,6 +92,10 @@ module _ (l n : ℕ) (e : l ≡ n * 6) (least : 8 ≤ n) (most : n ≤ 4096) whe
     limit = omega arith;
     few = omega arith;
   }
+
+  pub fresh-tree : stands-fresh .tree ≡ leaf 1 topNumber 0 255
+  unfolding stands-fresh
+  fresh-tree = refl
 
 pub reset-is : (t : List ℕ) (st : State) → lengthFits (length t) ≡ true → resetOf t st ≡ same (emptyTable (length t)) freshState Accepted
 unfolding resetOf ifB

@@ -4,7 +4,9 @@ pub mod Counts
 pub mod Lengths
 pub mod Stands
 pub mod Fresh
-pub mod Happens
+pub mod Seen
+pub mod Passes
 pub mod Keeps
 pub mod Demand2
+pub mod Carried
 pub mod Wrong

@@ -7,9 +7,10 @@ use mathlib.Core.Path.{_∙_, _≡_, ap, subst, sym}
 use native.Mathlib.Omega.{arith}
 use Rattle.demand2.proofs.Demand2.{stands}
 use Rattle.demand2.proofs.Fresh.{reset-is, stands-fresh}
-use Rattle.demand2.proofs.Happens.{happens, reach-is, the-seen}
 use Rattle.demand2.proofs.Keeps.{stands-on}
 use Rattle.demand2.proofs.Lengths.{fits-of}
+use Rattle.demand2.proofs.Passes.{passing}
+use Rattle.demand2.proofs.Seen.{reach-is, the-seen}
 use Rattle.demand2.proofs.Stands.{Stands, fits-is, sound-is}
 use Rattle.demand3.proofs.Crown.{Crown, crown}
 use Rattle.demand3.proofs.Heights.{crown-levels, height-is, height-levels, plain-rank}
@@ -39,8 +40,9 @@ use Rattle.trees.specs.Tree.{Tree, leaf, node}
 use Rattle.views.proofs.Law.{in-or-out}
 
 pub rich-on : {p : Point} → Rich p → (c : Ask) → Rich (advance real p c)
+unfolding advance
 rich-on r c =
-    let h = happens (r .stands) c in
+    let h = passing (r .stands) c .passes in
     let e = extra-on (r .stands) (extra-at r) h in
     record { stands = stands-on (r .stands) h; n = r .stands .n; tree = e .0; extra = e .1 }
 

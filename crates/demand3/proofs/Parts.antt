@@ -6,10 +6,10 @@ use lib.ListN.{length}
 use mathlib.Core.Bool.{Bool, _&&_, false, not, true}
 use mathlib.Core.List.{List, [], _∷_}
 use mathlib.Core.Logic.{_⊎_, inl, inr}
-use mathlib.Core.Option.{none}
 use mathlib.Core.Path.{_∙_, _≡_, ap, refl, subst, sym}
 use native.Mathlib.Omega.{arith}
 use Rattle.commits.proofs.Grounds.{root-rank}
+use Rattle.demand2.proofs.Carried.{none}
 use Rattle.demand2.proofs.Stands.{Stands, slots-is}
 use Rattle.demand3.proofs.Crown.{Crown, Plain}
 use Rattle.demand3.proofs.Demand3.{crowned, figures-reached, height-printed, levels-few, low, paid-is, rich}

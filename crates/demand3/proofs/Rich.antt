@@ -9,22 +9,24 @@ use native.Mathlib.Nat.{add-zero}
 use native.Mathlib.Omega.{arith}
 use Rattle.commits.proofs.Acts.{Act, Kind, Proper, doubles, levelPut, promotes, proper, putNumber, rotates1, rotates2, settles, takes, takes-out}
 use Rattle.commits.proofs.Sight.{Changed, PutChanged}
-use Rattle.demand2.proofs.Accounts.{not-six}
+use Rattle.demand2.proofs.Accounts.{Agree, not-six}
 use Rattle.demand2.proofs.Counts.{all-alike}
 use Rattle.demand2.proofs.Fresh.{fresh-carries}
-use Rattle.demand2.proofs.Happens.{Happens, abandons, all-idle, begins, leaves-settling, nothing, resets, steps, the-seen, tidied, tidies}
+use Rattle.demand2.proofs.Passes.{Passes, abandons, begins, looks, refused, resets, steps, tidies}
+use Rattle.demand2.proofs.Seen.{all-idle, the-seen, tidied}
 use Rattle.demand2.proofs.Stands.{Stands}
 use Rattle.demand3.proofs.Crown.{act-sents, sents}
 use Rattle.demand3.proofs.Roles.{cast-same, role, roleOf, roles, roles-stored, serve-role, settle-role, walk-role}
 use Rattle.fares.proofs.Tidied.{swept, swept-carries}
-use Rattle.history.specs.Ledger.{Account, Point, opening}
+use Rattle.history.specs.History.{Ask}
+use Rattle.history.specs.Ledger.{Account, Open, Point, begun, oneUnsettled, openAt, opening, shut, unsettled}
 use Rattle.machine.specs.Answers.{numberOf}
 use Rattle.machine.specs.Calls.{emptyTable, sweep}
 use Rattle.machine.specs.Choice.{ifB}
 use Rattle.machine.specs.Commit.{Did}
 use Rattle.machine.specs.Record.{topNumber}
 use Rattle.machine.specs.State.{busyTasks, freshState, one, taskAt}
-use Rattle.machine.specs.Step.{turned}
+use Rattle.machine.specs.Step.{Left, turned}
 use Rattle.machine.specs.Table.{View, Write, puts, view}
 use Rattle.owners.proofs.Events.{owners-commit, owners-end, owners-leave, owners-put, owners-read, owners-restart, owners-walk}
 use Rattle.owners.specs.Owners.{Owner, Owners, Role, cast, other, settler, walking}
@@ -270,13 +272,24 @@ module _ {p : Point} (s : Stands p) (x : Extra (s .n) (s .tree) p) where
         sentinel-leaf = x .sentinel-leaf;
       }
 
+  -- a task that is abandoned: one more of the u if it was settling
+  abandon-extra : (i du : ℕ) (a : Account) → i < 8 → (o : Open) (w : Work) → Agree o w → taskAt st i .work ≡ w → du ≡ oneUnsettled o
+      → Extra (s .n) (s .tree) (record { table = p .table; state = stored i idleTask (st .m) (st .u + du); account = a })
+  abandon-extra i du a lt shut Idle g is e = served i lt idleTask (st .m) (st .u + du) a (omega arith) (omega arith) (role-at i Idle is) refl
+  abandon-extra i du a lt shut (Busy j f) g is e = absurd g
+  abandon-extra i du a lt (begun o j) Idle g is e = absurd g
+  abandon-extra i du a lt (begun o j) (Busy j′ f) g is e =
+      served i lt idleTask (st .m) (st .u + du) a (omega arith) (omega arith) (role-at i (Busy j′ f) is ∙ serve-role (j′ .number) f o (g .1)) refl
+  abandon-extra i du a lt unsettled Idle g is e = absurd g
+  abandon-extra i du a lt unsettled (Busy j f) g is e =
+      at-task i lt idleTask (st .m) (st .u + du) a (omega arith) (let q : st .u + du ≡ suc (st .u) = omega arith in rw q (owners-leave (x .owners) i))
+
   -- EVERYTHING that a call can do
-  pub extra-on : {q : Point} → Happens s q → (t′ : Tree) × Extra (s .n) t′ q
-  extra-on nothing = (s .tree, x)
+  pub extra-on : {c : Ask} {l : Left} {a′ : Account} {t′ : Tree} → Passes s c l a′ t′ → (t″ : Tree) × Extra (s .n) t″ (record { table = l .table; state = l .state; account = a′ })
+  extra-on (refused y h) = (s .tree, x)
+  extra-on (looks y h) = (s .tree, x)
   extra-on resets = (leaf 1 topNumber 0 255, extra-fresh (length (p .table)) (s .n) (s .size) (s .least) (s .most))
-  extra-on (begins i o j lt fk fp idle) = (s .tree, served i lt (taskBegun o j) (st .m) (st .u) _ (omega arith) refl (role-at i Idle idle) refl)
-  extra-on (abandons i j f o lt is g) = (s .tree, served i lt idleTask (st .m) (st .u) _ (omega arith) refl (role-at i (Busy j f) is ∙ serve-role (j .number) f o g) refl)
-  extra-on (leaves-settling i j f lt is g) =
-      (s .tree, at-task i lt idleTask (st .m + 0) (st .u + 1) _ (omega arith) (let q : st .u + 1 ≡ suc (st .u) = omega arith in rw q (owners-leave (x .owners) i)))
+  extra-on (begins i o j lt idle f) = (s .tree, served i lt (taskBegun o j) (st .m) (st .u) _ (omega arith) refl (role-at i Idle idle) refl)
+  extra-on (steps i j f d lt is e inside does b) = rw (← (b .state-is)) (step-extra i j f lt is _ d inside does)
+  extra-on (abandons i du y lt b e h) = (s .tree, abandon-extra i du _ lt (openAt (p .account) i) (taskAt st i .work) (s .agree i) refl e)
   extra-on (tidies e) = (s .tree, tidy-extra e)
-  extra-on (steps i j f d lt is does inside) = step-extra i j f lt is _ d inside does

@@ -14,7 +14,7 @@ unfolding sumTo
 sum-add zero f g = refl
 sum-add (suc n) f g = omega (arith, sum-add n f g)
 
-sum-le : (n : ℕ) (f : ℕ → ℕ) → ((s : ℕ) → f s ≤ 1) → sumTo n f ≤ n
+pub sum-le : (n : ℕ) (f : ℕ → ℕ) → ((s : ℕ) → f s ≤ 1) → sumTo n f ≤ n
 unfolding sumTo
 sum-le zero f h = omega arith
 sum-le (suc n) f h = omega (arith, sum-le n f h, h n)
@@ -34,7 +34,7 @@ sum-one (suc n) x h =
       | inr q ↦ (let e : n ≡ x = omega arith in omega (arith, sum-none n x (omega arith), subst (λ y. ind n y ≡ 1) e (ind-same n)))
     ]
 
-size-sum : (n : ℕ) (t : Tree) → ((x : ℕ) → 0 < occ x t → x < n) → sumTo n (λ s. occ s t) ≡ size t
+pub size-sum : (n : ℕ) (t : Tree) → ((x : ℕ) → 0 < occ x t → x < n) → sumTo n (λ s. occ s t) ≡ size t
 size-sum n (leaf s k pr rk) h = sum-one n s (h s (omega (arith, ind-same s)))
 size-sum n (node s k rk l r) h =
     omega (

@@ -91,7 +91,7 @@ module _ (n : ℕ) (v : View) (t : Tree) (i : Carries v t) (f : Shape t) (b : Bo
           let ot : occ h (plug c u) ≤ 1 = subst (λ y. occ h y ≤ 1) w (at-most v t h i) in
           let z : occC h c ≡ 0 = omega (arith, occ-plug h c u, ind-other h 0 nz) in
           let lt : levAt 255 h t ≡ lvs (rankC c) (rank u) 1 =
-              ap (levAt 255 h) w ∙ omega (arith, levAt-plug h c u, levC-le h c, subst (λ y. levAt (rankC c) y u ≡ lvs (rankC c) (rank u) 1) at-u (levAt-root (rankC c) u (rw at-u (omega (arith, occ-plug h c u, z, ind-other h 0 nz))))) in
+          ap (levAt 255 h) w ∙ omega (arith, levAt-plug h c u, levC-le h c, subst (λ y. levAt (rankC c) y u ≡ lvs (rankC c) (rank u) 1) at-u (levAt-root (rankC c) u (rw at-u (omega (arith, occ-plug h c u, z, ind-other h 0 nz))))) in
           record {
             one = in-tree v t h i (rw w (omega (arith, occ-plug h c u, ind-other h 0 nz)));
             lower = omega (arith, ra, rh, s .under);

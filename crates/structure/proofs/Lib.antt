@@ -1,0 +1,14 @@
+pub mod Ways
+pub mod Built
+pub mod Changes
+pub mod Grows
+pub mod States
+pub mod Sizes
+pub mod Counts
+pub mod Tests
+pub mod Sees
+pub mod Notes
+pub mod Since
+pub mod Busy
+pub mod Tested
+pub mod Structure

@@ -1,0 +1,1 @@
+// Structure from a reset as theorems. No code.
