@@ -17,7 +17,7 @@ use Rattle.machine.specs.Commit.{Did, calm}
 use Rattle.machine.specs.State.{one, taskAt}
 use Rattle.machine.specs.Step.{answered, turned}
 use Rattle.machine.specs.Table.{View, Write}
-use Rattle.steps.specs.Does.{Does, EndOf, Quiet, goes, hurts, leaves, put-commits, rests, settle-commits, settled, stops, take-commits, turnOfPut}
+use Rattle.steps.specs.Does.{Does, EndOf, Quiet, hurts, leaves, moves-on, put-commits, rests, settle-commits, settled, stops, take-commits, turnOfPut}
 use Rattle.terms.specs.Task.{busy, goalOf, goalSettles, idleTask, workSettles}
 use Rattle.terms.specs.declared.Goal.the-variants.{Serve, Settle}
 use Rattle.terms.specs.declared.Job.{Job}
@@ -158,7 +158,7 @@ module _ (st : State) (a : Account) (i : ℕ) where
       puts = omega arith;
       limit = inl refl;
     }
-    quiet-booked _ v t (goes f′ e ok mv) =
+    quiet-booked _ v t (moves-on f′ e ok mv) =
         let g′ : Agree o (Busy j f′) = same-goal o g e in
         record {
           then = o;

@@ -14,7 +14,7 @@ use Rattle.machine.specs.Choice.{ifB}
 use Rattle.machine.specs.Commit.{Did}
 use Rattle.machine.specs.Table.{View}
 use Rattle.steps.proofs.Trails.{task-kept}
-use Rattle.steps.specs.Does.{Does, Quiet, goes, hurts, leaves, put-commits, rests, settle-commits, settled, stops, take-commits, turnOfPut}
+use Rattle.steps.specs.Does.{Does, Quiet, hurts, leaves, moves-on, put-commits, rests, settle-commits, settled, stops, take-commits, turnOfPut}
 use Rattle.steps.specs.Trail.{TaskOk, WorkOk}
 use Rattle.terms.specs.Task.{busy, idleTask}
 use Rattle.terms.specs.declared.Goal.the-variants.{Settle}
@@ -76,7 +76,7 @@ put-ok w t j false x y = tt
 
 quiet-ok : (v : View) (t : Tree) (j : Job) (f : Phase) (a : Turn) → WorkOk v t (Busy j f) → Quiet v t j f a → TaskOk v t (taskAfter a (busy j f))
 quiet-ok v t j f _ ok hurts = ok
-quiet-ok v t j f _ ok (goes f′ g p mv) = (ok .0, ok .1, p)
+quiet-ok v t j f _ ok (moves-on f′ g p mv) = (ok .0, ok .1, p)
 quiet-ok v t j f _ ok (stops o a g e) = tt
 quiet-ok v t j f _ ok (settled g w l e) = tt
 quiet-ok v t j f _ ok (leaves g) = tt

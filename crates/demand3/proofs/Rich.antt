@@ -34,7 +34,7 @@ use Rattle.potential.proofs.Acts.{act-phi, pays}
 use Rattle.potential.specs.Potential.{phi}
 use Rattle.routes.proofs.Level.{lv-not-255, lvs-not}
 use Rattle.routes.specs.Route.{Has, lv, route}
-use Rattle.steps.specs.Does.{Does, Moves, Quiet, aboveOf, goes, hurts, leaves, put-commits, rests, settle-commits, settled, standing, stops, take-commits, turnOfPut}
+use Rattle.steps.specs.Does.{Does, Moves, Quiet, aboveOf, hurts, leaves, moves-on, put-commits, rests, settle-commits, settled, standing, stops, take-commits, turnOfPut}
 use Rattle.steps.specs.Trail.{WorkOk}
 use Rattle.terms.specs.Task.{busy, goalOf, idleTask}
 use Rattle.terms.specs.declared.Goal.{Goal}
@@ -156,7 +156,7 @@ module _ {p : Point} (s : Stands p) (x : Extra (s .n) (s .tree) p) where
 
     quiet-extra : (b : Turn) → Quiet v (s .tree) j f b → Extra (s .n) (s .tree) (record { table = p .table; state = turned st i b false; account = a })
     quiet-extra _ hurts = record { size = s .size; owners = x .owners; paid = x .paid; sentinel-leaf = x .sentinel-leaf }
-    quiet-extra _ (goes f′ e ok mv) =
+    quiet-extra _ (moves-on f′ e ok mv) =
         at-task i lt (busy j f′) (st .m + 0) (st .u + 0) a (omega arith) (rw (add-zero (st .u)) (goes-on f′ (goalOf f) refl e mv))
     quiet-extra _ (stops o y e n) =
         served i lt idleTask (st .m + 0) (st .u + one (eqb (numberOf y) 6)) a (omega arith) (rw (not-six st (record { tasks = []; commits = []; lost = 0 }) i o (numberOf y) n) (add-zero (st .u)))

@@ -44,13 +44,13 @@ use Rattle.trees.specs.Tree.{Tree}
 use Rattle.views.specs.Update.{link}
 
 module _ (v : View) (t : Tree) (i : Carries v t) (sh : Shape t) (n m : ℕ) (j : Job) (q : Path) (up : Upper v q) where
-  abbrev pub g : ℕ
+  abbrev g : ℕ
   g = q .grand
 
-  abbrev pub z : ℕ
+  abbrev z : ℕ
   z = q .parent
 
-  abbrev pub x : ℕ
+  abbrev x : ℕ
   x = q .here
 
   abbrev Acts : SettleStage → Did → Type 0
@@ -64,16 +64,16 @@ module _ (v : View) (t : Tree) (i : Carries v t) (sh : Shape t) (n m : ℕ) (j :
   too-few s = rests _ (leaves refl)
 
   module _ (a b : Links) where
-    abbrev pub side-z : Bool
+    abbrev side-z : Bool
     side-z = eqb (a .left) z
 
-    abbrev pub side-x : Bool
+    abbrev side-x : Bool
     side-x = eqb (b .left) x
 
-    abbrev pub o : ℕ
+    abbrev o : ℕ
     o = other b x
 
-    abbrev pub Seen : Type 0
+    abbrev Seen : Type 0
     Seen = Pair v g z x o side-z side-x
 
     -- z, x and s are well formed; grounds and test of a commit with two records read

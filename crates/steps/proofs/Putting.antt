@@ -20,7 +20,7 @@ use Rattle.routes.specs.Route.{Has, full, lv, route}
 use Rattle.steps.proofs.Facts.{Plain, both, differ, formed-plain, leads-to, leaf-links, linked-formed, still-facts}
 use Rattle.steps.proofs.Rooms.{three-free}
 use Rattle.steps.proofs.Walking.{read-quiet}
-use Rattle.steps.specs.Does.{Does, goes, hurts, put-commits, rests, stops}
+use Rattle.steps.specs.Does.{Does, hurts, moves-on, put-commits, rests, stops}
 use Rattle.steps.specs.Trail.{Fine, Trail}
 use Rattle.terms.specs.Task.{busy, goalOf}
 use Rattle.terms.specs.declared.Answer.the-variants.{Limit, NoRoom}
@@ -45,7 +45,7 @@ pub commit-does : (v : View) (t : Tree) (m : ℕ) (j : Job) (f : Phase) (grounds
 unfolding commitIf
 commit-does v t m j f grounds test change h =
     if-elim (Does v t m j f) _ (λ e. rests Hurt hurts)
-    (λ e. if-elim (Does v t m j f) _ (λ d. rests _ (goes (Start (goalOf f)) refl tt tt)) (λ d. h (not-false grounds e) (not-false test d)))
+    (λ e. if-elim (Does v t m j f) _ (λ d. rests _ (moves-on (Start (goalOf f)) refl tt tt)) (λ d. h (not-false grounds e) (not-false test d)))
 
 -- a remembered record that is in state 1 is on the route
 pub on-route : (v : View) (t : Tree) (k s : ℕ) → (s ≡ 0 → ⊥) → v s .state ≡ 1 → Fine v t k s → Has s (route k t)

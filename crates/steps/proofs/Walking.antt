@@ -13,7 +13,7 @@ use Rattle.machine.specs.Walk.{arrival, atLeaf, serveArrival, settleArrival, so
 use Rattle.routes.specs.Route.{here, lv, next}
 use Rattle.steps.proofs.Facts.{formed-used, leaf-links, linked-formed, not-level}
 use Rattle.steps.proofs.Trails.{entry-fine, fine-used, next-sought, step-fine}
-use Rattle.steps.specs.Does.{Moves, Quiet, goes, hurts, settled, standing, stops, walks}
+use Rattle.steps.specs.Does.{Moves, Quiet, hurts, moves-on, settled, standing, stops, walks}
 use Rattle.steps.specs.Trail.{Fine, Lower, PhaseOk, Trail, Upper}
 use Rattle.terms.specs.Task.{busy, goalOf, noGrand, noted}
 use Rattle.terms.specs.declared.Answer.the-variants.{Found, HeldAlready, NotHeld}
@@ -65,12 +65,12 @@ module _ (v : View) (t : Tree) (i : Carries v t) (n : ℕ) (j : Job) (lt : j .nu
     serve-leaf : (o : Operation) → goalOf f ≡ Serve o → Quiet v t j f (atLeaf o j q (v (q .here)))
     unfolding atLeaf
     serve-leaf LookUp g = if-elim (Quiet v t j f) _ (λ e. stops LookUp (Found (v (q .here) .price)) g (inl refl)) (λ e. stops LookUp NotHeld g (inr refl))
-    serve-leaf PutIn g = if-elim (Quiet v t j f) _ (λ e. stops PutIn HeldAlready g (inl refl)) (λ e. goes (PuttingIn q PutParent) (sym g) came tt)
-    serve-leaf TakeOut g = if-elim (Quiet v t j f) _ (λ e. goes (TakingOut q TakeGrand) (sym g) came tt) (λ e. stops TakeOut NotHeld g (inl refl))
+    serve-leaf PutIn g = if-elim (Quiet v t j f) _ (λ e. stops PutIn HeldAlready g (inl refl)) (λ e. moves-on (PuttingIn q PutParent) (sym g) came tt)
+    serve-leaf TakeOut g = if-elim (Quiet v t j f) _ (λ e. moves-on (TakingOut q TakeGrand) (sym g) came tt) (λ e. stops TakeOut NotHeld g (inl refl))
 
     serve : (o : Operation) → goalOf f ≡ Serve o → Quiet v t j f (serveArrival o j q (v (q .here)))
     unfolding serveArrival
-    serve o g = if-elim (Quiet v t j f) _ (λ e. serve-leaf o g) (λ e. goes (Walk (Serve o) q) (sym g) came tt)
+    serve o g = if-elim (Quiet v t j f) _ (λ e. serve-leaf o g) (λ e. moves-on (Walk (Serve o) q) (sym g) came tt)
 
     -- a leaf leads nowhere
     end : isLeaf (v (q .here)) ≡ true → next v k (next v k s) ≡ 0
@@ -87,10 +87,10 @@ module _ (v : View) (t : Tree) (i : Carries v t) (n : ℕ) (j : Job) (lt : j .nu
     unfolding settleArrival
     settle g up =
         if-elim (Quiet v t j f) _ (λ e. hurts)
-        (λ e. if-elim (Quiet v t j f) _ (λ l. goes (Settling q SettleGrand) (sym g) (came, up) tt)
+        (λ e. if-elim (Quiet v t j f) _ (λ l. moves-on (Settling q SettleGrand) (sym g) (came, up) tt)
         (λ l. if-elim (Quiet v t j f) _
         (λ h. settled g walk (subst (λ y. lv (v s .rank) (v y .rank) ≡ true → ⊥) (next-sought v k s) (not-level (v s) (v (q .here)) l)) (end h))
-        (λ h. goes (Walk Settle q) (sym g) (came, up, below l) (walk, next-sought v k s, not-level (v s) (v (q .here)) l))))
+        (λ h. moves-on (Walk Settle q) (sym g) (came, up, below l) (walk, next-sought v k s, not-level (v s) (v (q .here)) l))))
 
   -- from slot s: for an operation, and for settling, where what is above s isn't level with it
   pub serve-from : (o : Operation) → goalOf f ≡ Serve o → Quiet v t j f (walkFrom v n (Serve o) j grand s)
@@ -126,4 +126,4 @@ pub read-quiet : (v : View) (t : Tree) (j : Job) (f f′ : Phase) (formed good :
 unfolding reading
 read-quiet v t j f f′ formed good r e g ok mv =
     if-elim (Quiet v t j f) _ (λ a. hurts)
-    (λ a. if-elim (Quiet v t j f) _ (λ b. subst (λ k. Quiet v t j f (Next k)) (sym e) (goes f′ g ok mv)) (λ b. goes (Start (goalOf f)) refl tt tt))
+    (λ a. if-elim (Quiet v t j f) _ (λ b. subst (λ k. Quiet v t j f (Next k)) (sym e) (moves-on f′ g ok mv)) (λ b. moves-on (Start (goalOf f)) refl tt tt))

@@ -69,7 +69,7 @@ EndOf TakeOut x = (x ≡ 2) ⊎ (x ≡ 15)
 -- a turn without writes: 17, the task goes on with its goal, or it ends
 pub data Quiet (v : View) (t : Tree) (j : Job) (f : Phase) : Turn → Type 0 where
   hurts : Quiet v t j f Hurt
-  goes : (f′ : Phase) → goalOf f′ ≡ goalOf f → PhaseOk v t (j .number) f′ → Moves v (j .number) f f′ → Quiet v t j f (Next (busy j f′))
+  moves-on : (f′ : Phase) → goalOf f′ ≡ goalOf f → PhaseOk v t (j .number) f′ → Moves v (j .number) f f′ → Quiet v t j f (Next (busy j f′))
   stops : (o : Operation) (a : Answer) → goalOf f ≡ Serve o → EndOf o (numberOf a) → Quiet v t j f (Done a)
   settled : goalOf f ≡ Settle → walks f ≡ true → (lv (v (standing f) .rank) (v (next v (j .number) (standing f)) .rank) ≡ true → ⊥)
       → next v (j .number) (next v (j .number) (standing f)) ≡ 0 → Quiet v t j f (Done PutSettled)

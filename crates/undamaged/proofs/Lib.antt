@@ -4,3 +4,7 @@ pub mod Memory
 pub mod Walks
 pub mod Puts
 pub mod Limits
+pub mod Settles
+pub mod Phases
+pub mod Facts
+pub mod NoDamage

@@ -54,7 +54,7 @@ module _ (v : View) (t : Tree) where
       (λ e. if-elim (λ (d : Did). Safe v t (d .turn)) _ (λ h. again) (λ h. on (not-false test h)))
 
 -- tests that hold
-and-true : (a b : Bool) → a ≡ true → b ≡ true → (a && b) ≡ true
+pub and-true : (a b : Bool) → a ≡ true → b ≡ true → (a && b) ≡ true
 and-true a b e f = rw (e, f) refl
 
 pub differs : (a b : ℕ) → (a ≡ b → ⊥) → not (eqb a b) ≡ true

@@ -2,3 +2,4 @@ pub mod Calm
 pub mod Records
 pub mod Memory
 pub mod Safe
+pub mod NoDamage
