@@ -1,0 +1,1 @@
+// A free slot is six zeros, on every history. No code.
