@@ -1,3 +1,0 @@
-pub mod Zeros
-pub mod Acts
-pub mod Histories

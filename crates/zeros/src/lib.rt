@@ -1,1 +1,0 @@
-// A free slot is six zeros, on every history. No code.
