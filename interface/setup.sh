@@ -50,7 +50,7 @@ make_archive() {
 build() { # NAME FILE...
     local name=$1
     shift
-    "$compiler" -std=c11 -O3 -Wall -Wextra -Werror "${link[@]}" -I "$here/measure" -o "$made/$name" "$@" "$archive"
+    "$compiler" -std=gnu11 -O3 -Wall -Wextra -Werror "${link[@]}" -I "$here/measure" -o "$made/$name" "$@" "$archive"
 }
 
 run() { # PROGRAM WORD...

@@ -14,12 +14,26 @@
 #include "random.h"
 #include "side.h"
 
+#define ROOM_MOST (2 * TIEBEAMER_SLOTS_MOST)
+#define LENT 7u /* what the lent places hold before a call */
+
 enum { POKE_TABLE = 8, POKE_STATE = 9 }; /* number is the place, price the value */
 
 #define SPARE 6
 #define STATE_ALL (TIEBEAMER_STATE_NUMBERS + SPARE)
 #define TASK_NUMBERS 15
 #define TOP UINT32_MAX
+
+/* A number that its kind does not use is 0. */
+struct call {
+    uint32_t kind, operation, task, number, price, count, room, table_count, state_count;
+};
+
+/* Table and state of a side, and what the last call left in the lent places. */
+struct places {
+    uint32_t *table, *state;
+    uint32_t answer, price, figures[TIEBEAMER_FIGURES], room[ROOM_MOST];
+};
 
 /* How calls are chosen for a while. */
 struct mood {
@@ -32,9 +46,9 @@ struct mood {
 
 struct driver {
     struct random random;
-    struct side tried, beside; /* beside: the plain C version, where the archive is tried */
+    struct places tried, beside; /* beside: the plain C version, where the archive is tried */
     uint32_t slots, length;
-    void (*make)(struct side *, const struct call *);
+    const struct side *side;
     int alone, clearing;
     uint32_t hurt_left, next_sorted;
     struct mood mood;
@@ -74,6 +88,28 @@ static uint32_t *new_numbers(size_t count) {
 
 /* Calls. */
 
+static void lend(struct places *p, const struct call *c) {
+    p->price = LENT;
+    for (int i = 0; i < TIEBEAMER_FIGURES; i++)
+        p->figures[i] = LENT;
+    for (uint32_t i = 0; i < c->room; i++)
+        p->room[i] = LENT;
+}
+
+static uint32_t answer(const struct side *side, struct places *p, const struct call *c) {
+    size_t n = c->table_count, k = c->state_count;
+    switch (c->kind) {
+    case RESET: return side->reset(p->table, n, p->state, k);
+    case BEGIN: return side->begin(p->table, n, p->state, k, c->task, c->operation, c->number, c->price);
+    case STEP: return side->step(p->table, n, p->state, k, c->task, &p->price);
+    case RUN: return side->run(p->table, n, p->state, k, c->task, c->count, &p->price);
+    case ABANDON: return side->abandon(p->table, n, p->state, k, c->task);
+    case TIDY: return side->tidy(p->table, n, p->state, k);
+    case FIGURES: return side->figures(p->table, n, p->state, k, p->figures);
+    default: return side->list(p->table, n, p->state, k, p->room, c->room);
+    }
+}
+
 static void same(int is, const char *what, const struct call *c) {
     if (is)
         return;
@@ -82,7 +118,7 @@ static void same(int is, const char *what, const struct call *c) {
 }
 
 static void compare_sides(const struct driver *d, const struct call *c) {
-    const struct side *a = &d->tried, *b = &d->beside;
+    const struct places *a = &d->tried, *b = &d->beside;
     same(a->answer == b->answer, "answer", c);
     same(a->price == b->price, "price", c);
     same(!memcmp(a->figures, b->figures, sizeof a->figures), "figures", c);
@@ -93,10 +129,10 @@ static void compare_sides(const struct driver *d, const struct call *c) {
 
 static void make(struct driver *d, const struct call *c) {
     lend(&d->tried, c);
-    d->make(&d->tried, c);
+    d->tried.answer = answer(d->side, &d->tried, c);
     if (!d->alone) {
         lend(&d->beside, c);
-        call_plain(&d->beside, c);
+        d->beside.answer = answer(&asking_side, &d->beside, c);
         compare_sides(d, c);
     }
     put((const uint32_t *)c, sizeof *c / sizeof(uint32_t));
@@ -319,7 +355,7 @@ int main(int words, char **word) {
     d.slots = (uint32_t)strtoul(word[1], NULL, 10);
     d.random.state = strtoull(word[2], NULL, 10);
     d.alone = words == 5;
-    d.make = d.alone ? call_plain : call_archive;
+    d.side = d.alone ? &asking_side : &archive_side;
     if (d.slots < TIEBEAMER_SLOTS_LEAST || d.slots > TIEBEAMER_SLOTS_MOST)
         fail("slots are 8 to 4096");
     start(&d);

@@ -401,7 +401,9 @@ static inline uint32_t step_busy(struct table t, struct plain_state *s, struct p
     }
 }
 
-uint32_t plain_step(uint32_t *table, size_t count, struct plain_state *s, uint32_t task, uint32_t *price) {
+uint32_t plain_step(uint32_t *table, size_t count, uint32_t *state, size_t numbers, uint32_t task, uint32_t *price) {
+    (void)numbers;
+    struct plain_state *s = (struct plain_state *)state;
     *price = 0;
     struct table t = {(struct record *)table, slots_of(count)};
     if (!t.slots)
@@ -414,8 +416,10 @@ uint32_t plain_step(uint32_t *table, size_t count, struct plain_state *s, uint32
     return step_busy(t, s, k, price);
 }
 
-uint32_t plain_run(uint32_t *table, size_t count, struct plain_state *s, uint32_t task, uint32_t steps, uint32_t *price) {
-    uint32_t answer = plain_step(table, count, s, task, price);
+uint32_t plain_run(uint32_t *table, size_t count, uint32_t *state, size_t numbers, uint32_t task, uint32_t steps,
+                   uint32_t *price) {
+    struct plain_state *s = (struct plain_state *)state;
+    uint32_t answer = plain_step(table, count, state, numbers, task, price);
     struct table t = {(struct record *)table, slots_of(count)};
     while (answer == 0 && --steps)
         answer = step_busy(t, s, &s->task[task], price);
@@ -424,20 +428,22 @@ uint32_t plain_run(uint32_t *table, size_t count, struct plain_state *s, uint32_
 
 /* The other calls. */
 
-uint32_t plain_reset(uint32_t *table, size_t count, struct plain_state *s) {
+uint32_t plain_reset(uint32_t *table, size_t count, uint32_t *state, size_t numbers) {
+    (void)numbers;
     if (!slots_of(count))
         return TIEBEAMER_LENGTH;
     struct record *at = (struct record *)table;
     memset(table, 0, count * sizeof *table);
     at[0] = (struct record){IN_TREE, SENTINEL, 0, SENTINEL_RANK, 1, 0};
     at[1] = (struct record){IN_TREE, SENTINEL, 0, SENTINEL_RANK, 0, 0};
-    memset(s, 0, sizeof *s);
+    memset(state, 0, sizeof(struct plain_state));
     return 0;
 }
 
-uint32_t plain_begin(const uint32_t *table, size_t count, struct plain_state *s, uint32_t task, uint32_t operation,
+uint32_t plain_begin(const uint32_t *table, size_t count, uint32_t *state, size_t numbers, uint32_t task, uint32_t operation,
                      uint32_t number, uint32_t price) {
-    (void)table;
+    (void)table, (void)numbers;
+    struct plain_state *s = (struct plain_state *)state;
     if (!slots_of(count))
         return TIEBEAMER_LENGTH;
     if (task > 7)
@@ -456,8 +462,9 @@ uint32_t plain_begin(const uint32_t *table, size_t count, struct plain_state *s,
     return 0;
 }
 
-uint32_t plain_abandon(const uint32_t *table, size_t count, struct plain_state *s, uint32_t task) {
-    (void)table;
+uint32_t plain_abandon(const uint32_t *table, size_t count, uint32_t *state, size_t numbers, uint32_t task) {
+    (void)table, (void)numbers;
+    struct plain_state *s = (struct plain_state *)state;
     if (!slots_of(count))
         return TIEBEAMER_LENGTH;
     if (task > 7)
@@ -518,7 +525,9 @@ static int reach(struct table t, struct reached *f) {
     return 1;
 }
 
-uint32_t plain_tidy(uint32_t *table, size_t count, const struct plain_state *s) {
+uint32_t plain_tidy(uint32_t *table, size_t count, uint32_t *state, size_t numbers) {
+    (void)numbers;
+    const struct plain_state *s = (const struct plain_state *)state;
     struct table t = {(struct record *)table, slots_of(count)};
     struct reached f;
     if (!t.slots)
@@ -548,7 +557,9 @@ static uint32_t allowed_rank(uint32_t m) {
     return rank;
 }
 
-uint32_t plain_figures(const uint32_t *table, size_t count, const struct plain_state *s, uint32_t figures[7]) {
+uint32_t plain_figures(const uint32_t *table, size_t count, const uint32_t *state, size_t numbers, uint32_t figures[7]) {
+    (void)numbers;
+    const struct plain_state *s = (const struct plain_state *)state;
     struct table t = {(struct record *)table, slots_of(count)};
     struct reached f;
     if (!t.slots)
@@ -568,7 +579,10 @@ uint32_t plain_figures(const uint32_t *table, size_t count, const struct plain_s
     return 0;
 }
 
-uint32_t plain_list(const uint32_t *table, size_t count, const struct plain_state *s, uint32_t *room, size_t room_count) {
+uint32_t plain_list(const uint32_t *table, size_t count, const uint32_t *state, size_t numbers, uint32_t *room,
+                    size_t room_count) {
+    (void)numbers;
+    const struct plain_state *s = (const struct plain_state *)state;
     struct table t = {(struct record *)table, slots_of(count)};
     struct reached f;
     if (!t.slots)
@@ -605,7 +619,10 @@ static inline int is_task(const struct plain_task *k) {
     }
 }
 
-int plain_is_state(const struct plain_state *s) {
+int plain_is_state(const uint32_t *state, size_t numbers) {
+    const struct plain_state *s = (const struct plain_state *)state;
+    if (numbers != TIEBEAMER_STATE_NUMBERS)
+        return 0;
     for (int i = 0; i < 8; i++)
         if (!is_task(&s->task[i]))
             return 0;

@@ -1,8 +1,8 @@
 /* The rules of document 01 in plain C, written for speed: what the proved archive is measured against.
  *
  * Same answers, same refusals up to 18, same tables and states, on damaged ones too. Only 50 and 51 are missing: the state is
- * a struct of this program's own, so nobody asks whether its numbers are a state. plain_is_state asks it, for the measuring
- * of that question alone. The struct has the layout of docs/PROBE.md, so that states are compared number by number. */
+ * this program's own, so nobody asks whether its numbers are a state. plain_is_state asks it. The functions are lent what those
+ * of tiebeamer.h are lent; the numbers of a state are a struct plain_state, in the layout of docs/PROBE.md. */
 #ifndef PLAIN_H
 #define PLAIN_H
 
@@ -26,17 +26,19 @@ struct plain_state {
     uint32_t m, u;
 };
 
-uint32_t plain_reset(uint32_t *table, size_t count, struct plain_state *state);
-uint32_t plain_begin(const uint32_t *table, size_t count, struct plain_state *state, uint32_t task, uint32_t operation,
+uint32_t plain_reset(uint32_t *table, size_t count, uint32_t *state, size_t numbers);
+uint32_t plain_begin(const uint32_t *table, size_t count, uint32_t *state, size_t numbers, uint32_t task, uint32_t operation,
                      uint32_t number, uint32_t price);
-uint32_t plain_step(uint32_t *table, size_t count, struct plain_state *state, uint32_t task, uint32_t *price);
-uint32_t plain_run(uint32_t *table, size_t count, struct plain_state *state, uint32_t task, uint32_t steps, uint32_t *price);
-uint32_t plain_abandon(const uint32_t *table, size_t count, struct plain_state *state, uint32_t task);
-uint32_t plain_tidy(uint32_t *table, size_t count, const struct plain_state *state);
-uint32_t plain_figures(const uint32_t *table, size_t count, const struct plain_state *state, uint32_t figures[7]);
-uint32_t plain_list(const uint32_t *table, size_t count, const struct plain_state *state, uint32_t *room, size_t room_count);
+uint32_t plain_step(uint32_t *table, size_t count, uint32_t *state, size_t numbers, uint32_t task, uint32_t *price);
+uint32_t plain_run(uint32_t *table, size_t count, uint32_t *state, size_t numbers, uint32_t task, uint32_t steps,
+                   uint32_t *price);
+uint32_t plain_abandon(const uint32_t *table, size_t count, uint32_t *state, size_t numbers, uint32_t task);
+uint32_t plain_tidy(uint32_t *table, size_t count, uint32_t *state, size_t numbers);
+uint32_t plain_figures(const uint32_t *table, size_t count, const uint32_t *state, size_t numbers, uint32_t figures[7]);
+uint32_t plain_list(const uint32_t *table, size_t count, const uint32_t *state, size_t numbers, uint32_t *room,
+                    size_t room_count);
 
-/* Whether the numbers of a struct are a state: the first question of every call of the archive. */
-int plain_is_state(const struct plain_state *state);
+/* Whether the numbers are a state: the first question of every call of the archive. */
+int plain_is_state(const uint32_t *state, size_t numbers);
 
 #endif

@@ -1,4 +1,4 @@
-/* A call of the interface, and a side that makes it: the archive, or the plain C version. */
+/* A side that makes calls: the archive, the plain C version, or this one asking first whether the numbers are a state. */
 #ifndef SIDE_H
 #define SIDE_H
 
@@ -9,26 +9,22 @@
 
 enum kind { RESET, BEGIN, STEP, ABANDON, TIDY, FIGURES, LIST, RUN };
 
-#define ROOM_MOST (2 * TIEBEAMER_SLOTS_MOST)
-#define LENT 7u /* what the lent places hold before a call */
-
-/* A number that its kind does not use is 0. */
-struct call {
-    uint32_t kind, operation, task, number, price, count, room, table_count, state_count;
-};
-
-/* What a side owns, and what the last call left in the lent places. */
+/* The functions of tiebeamer.h, by whichever side. */
 struct side {
-    uint32_t *table, *state;
-    uint32_t answer, price, figures[TIEBEAMER_FIGURES], room[ROOM_MOST];
+    const char *name;
+    uint32_t (*reset)(uint32_t *, size_t, uint32_t *, size_t);
+    uint32_t (*begin)(const uint32_t *, size_t, uint32_t *, size_t, uint32_t, uint32_t, uint32_t, uint32_t);
+    uint32_t (*step)(uint32_t *, size_t, uint32_t *, size_t, uint32_t, uint32_t *);
+    uint32_t (*run)(uint32_t *, size_t, uint32_t *, size_t, uint32_t, uint32_t, uint32_t *);
+    uint32_t (*abandon)(const uint32_t *, size_t, uint32_t *, size_t, uint32_t);
+    uint32_t (*tidy)(uint32_t *, size_t, uint32_t *, size_t);
+    uint32_t (*figures)(const uint32_t *, size_t, const uint32_t *, size_t, uint32_t *);
+    uint32_t (*list)(const uint32_t *, size_t, const uint32_t *, size_t, uint32_t *, size_t);
 };
 
-/* The price and the figures are lent for every call, the room as far as the call says. */
-void lend(struct side *side, const struct call *call);
+extern const struct side archive_side, plain_side;
 
-void call_archive(struct side *side, const struct call *call);
-
-/* With the interface's own refusals, 50 and 51, so that it answers as the archive does. */
-void call_plain(struct side *side, const struct call *call);
+/* The plain C version with the interface's own refusals, 50 and 51: it answers whatever the archive answers. */
+extern const struct side asking_side;
 
 #endif
