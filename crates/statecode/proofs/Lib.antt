@@ -3,3 +3,4 @@ pub mod Inverse
 pub mod Writing
 pub mod Reading
 pub mod Examples
+pub mod Own

@@ -1,5 +1,6 @@
 // A state as 122 numbers, and back (docs/PROBE.md): eight tasks of 15 numbers each, then m, then u.
 use state::fresh_state;
+use state::one_if;
 use terms::Goal;
 use terms::Job;
 use terms::Links;
@@ -15,9 +16,13 @@ use terms::Work;
 ghost use mathlib.Core.Path.{_≡_};
 ghost use mathlib.Core.List.{_++_};
 ghost use Prim.Native.Nat.{_+_, _*_, _≤_, _<_};
-ghost use lib.ListN.{length, drop};
+ghost use lib.ListN.{length, getD, take, drop, set};
 ghost use lib.Seq.{paste};
-ghost use Rattle.statecode.specs.Code.{goalNumber, noLinks, noPath, places, putRow, takeRow, settleRow, phaseRow, workRow, rows, encode, jobBy, pathBy, linksBy, goalBy, putBy, takeBy, settleBy, phaseBy, taskBy, stateBy, sameNumbers, noState, decode};
+ghost use mathlib.Core.Bool.{true};
+ghost use Rattle.terms.specs.Task.{workSettles};
+ghost use Rattle.machine.specs.State.{settling, sound, taskAt};
+ghost use Rattle.statecode.specs.Own.{ownRow, storing};
+ghost use Rattle.statecode.specs.Code.{isState, goalNumber, noLinks, noPath, places, putRow, takeRow, settleRow, phaseRow, workRow, rows, encode, jobBy, pathBy, linksBy, goalBy, putBy, takeBy, settleBy, phaseBy, taskBy, stateBy, sameNumbers, noState, decode};
 
 // The numbers of one task.
 pub struct Row {
@@ -326,21 +331,6 @@ fn state_by(w: &[u32]) -> State
     }
 }
 
-fn same_numbers(a: &[u32], b: &[u32]) -> bool
-    requires { ⌜ length (now a) ≡ length (now b) ⌝ }
-    ensures { λ r. ⌜ r ≡ sameNumbers (now (a .entry)) (now (b .entry)) ⌝ }
-{
-    let l = a.len();
-    let mut i: usize = 0;
-    while i < l {
-        if a[i] != b[i] {
-            return false;
-        }
-        i += 1;
-    }
-    true
-}
-
 fn no_state() -> GotState
     ensures { λ r. ⌜ r ≡ noState ⌝ }
 {
@@ -350,29 +340,126 @@ fn no_state() -> GotState
     }
 }
 
-// Whether the numbers are those of the state that they read as.
-fn is_own(w: &[u32], st: State) -> bool
-    requires { ⌜ length (now w) ≡ 122 ⌝ }
-    ensures { λ r. ⌜ r ≡ sameNumbers (encode st) (now (w .entry)) ⌝ }
+// Whether the first 15 numbers are these.
+fn same_row(r: Row, w: &[u32]) -> bool
+    requires { ⌜ 15 ≤ length (now w) ⌝ }
+    ensures { λ b. ⌜ b ≡ sameNumbers (r .at) (take 15 (now (w .entry))) ⌝ }
 {
-    let mut own = [0u32; 122];
-    write_state(&mut own, st);
-    same_numbers(&own, w)
+    let a = r.at;
+    (a[0] == w[0]) & (a[1] == w[1]) & (a[2] == w[2]) & (a[3] == w[3]) & (a[4] == w[4]) & (a[5] == w[5]) & (a[6] == w[6]) & (a[7] == w[7]) & (a[8] == w[8]) & (a[9] == w[9]) & (a[10] == w[10]) & (a[11] == w[11]) & (a[12] == w[12]) & (a[13] == w[13]) & (a[14] == w[14])
+}
+
+// Whether the first 15 numbers are those of the task that they read as.
+fn own_row(w: &[u32]) -> bool
+    requires { ⌜ 15 ≤ length (now w) ⌝ }
+    ensures { λ r. ⌜ r ≡ ownRow (now (w .entry)) ⌝ }
+{
+    same_row(row_of(task_by(w)), w)
+}
+
+// Whether the numbers are a state.
+pub fn is_state(w: &[u32]) -> bool
+    ensures { λ r. ⌜ r ≡ isState (now (w .entry)) ⌝ }
+{
+    if w.len() != 122 {
+        return false;
+    }
+    let mut i: usize = 0;
+    while i < 8 {
+        if !own_row(&w[15 * i..]) {
+            return false;
+        }
+        i += 1;
+    }
+    true
 }
 
 // The state of a row of numbers, if it is one.
 pub fn read_state(w: &[u32]) -> GotState
     ensures { λ r. ⌜ r ≡ decode (now (w .entry)) ⌝ }
 {
-    if w.len() != 122 {
-        return no_state();
-    }
-    let st = state_by(w);
-    if !is_own(w, st) {
+    if !is_state(w) {
         return no_state();
     }
     GotState {
         fine: true,
-        state: st,
+        state: state_by(w),
     }
+}
+
+// Task i of a state.
+pub fn task_at(w: &[u32], i: usize) -> Task
+    requires { ⌜ (length (now w) ≡ 122) × (i < 8) ⌝ }
+    ensures { λ r. ⌜ r ≡ taskAt (stateBy (now (w .entry))) i ⌝ }
+{
+    task_by(&w[15 * i..])
+}
+
+// Whether the task of the first 15 numbers settles.
+fn settles_by(w: &[u32]) -> bool
+    requires { ⌜ 15 ≤ length (now w) ⌝ }
+    ensures { λ r. ⌜ r ≡ workSettles (taskBy (now (w .entry)) .work) ⌝ }
+{
+    let f = w[0];
+    let k = w[3];
+    match f {
+        0 => false,
+        1 => goal_by(k).settles(),
+        2 => goal_by(k).settles(),
+        3 => false,
+        4 => false,
+        _ => true,
+    }
+}
+
+// How many tasks of a state settle.
+fn count_settling_by(w: &[u32]) -> u32
+    requires { ⌜ length (now w) ≡ 122 ⌝ }
+    ensures { λ r. ⌜ (r ≡ settling (stateBy (now (w .entry)) .tasks) 8) × (r ≤ 8) ⌝ }
+{
+    let mut n: u32 = 0;
+    let mut i: usize = 0;
+    while i < 8 {
+        n += one_if(settles_by(&w[15 * i..]));
+        i += 1;
+    }
+    n
+}
+
+// Whether m is in range and c is at most m. At most eight tasks settle: they are counted only where it matters.
+fn is_sound_with(w: &[u32], m: u32, u: u32) -> bool
+    requires { ⌜ (length (now w) ≡ 122) × (m ≡ getD (now w) 120 0) × (u ≡ getD (now w) 121 0) ⌝ }
+    ensures { λ b. ⌜ b ≡ sound (stateBy (now (w .entry))) ⌝ }
+{
+    let c = u as u64;
+    if c + 8 <= m as u64 {
+        return m <= 1000000;
+    }
+    let all = c + count_settling_by(w) as u64;
+    (m <= 1000000) & (all <= m as u64)
+}
+
+pub fn is_sound_by(w: &[u32]) -> bool
+    requires { ⌜ length (now w) ≡ 122 ⌝ }
+    ensures { λ b. ⌜ b ≡ sound (stateBy (now (w .entry))) ⌝ }
+{
+    is_sound_with(w, w[120], w[121])
+}
+
+// m and u are written.
+fn put_ends(w: &mut [u32], m: u32, u: u32)
+    requires { ⌜ length (now w) ≡ 122 ⌝ }
+    ensures { λ _. ⌜ now (w .exit) ≡ set (set (now (w .entry)) 120 m) 121 u ⌝ }
+{
+    w[120] = m;
+    w[121] = u;
+}
+
+// A task is stored in a state, with m and u.
+pub fn store_task(w: &mut [u32], i: usize, k: Task, m: u32, u: u32)
+    requires { ⌜ (length (now w) ≡ 122) × (isState (now w) ≡ true) × (i < 8) ⌝ }
+    ensures { λ _. ⌜ (stateBy (now (w .exit)) ≡ storing (stateBy (now (w .entry))) i k m u) × (isState (now (w .exit)) ≡ true) ⌝ }
+{
+    put_row_at(w, 15 * i, row_of(k));
+    put_ends(w, m, u);
 }
