@@ -21,7 +21,7 @@ ghost use lib.Seq.{paste};
 ghost use mathlib.Core.Bool.{true};
 ghost use Rattle.terms.specs.Task.{workSettles};
 ghost use Rattle.machine.specs.State.{settling, sound, taskAt};
-ghost use Rattle.statecode.specs.Own.{ownRow, storing};
+ghost use Rattle.statecode.specs.Own.{clearFrom, ownGoal, ownTwo, ownFour, ownBy, ownRow, storing};
 ghost use Rattle.statecode.specs.Code.{isState, goalNumber, noLinks, noPath, places, putRow, takeRow, settleRow, phaseRow, workRow, rows, encode, jobBy, pathBy, linksBy, goalBy, putBy, takeBy, settleBy, phaseBy, taskBy, stateBy, sameNumbers, noState, decode};
 
 // The numbers of one task.
@@ -340,13 +340,97 @@ fn no_state() -> GotState
     }
 }
 
-// Whether the first 15 numbers are these.
-fn same_row(r: Row, w: &[u32]) -> bool
+// Whether all places from one on are 0.
+fn clear_1(w: &[u32]) -> bool
     requires { ⌜ 15 ≤ length (now w) ⌝ }
-    ensures { λ b. ⌜ b ≡ sameNumbers (r .at) (take 15 (now (w .entry))) ⌝ }
+    ensures { λ b. ⌜ b ≡ clearFrom 1 14 (now (w .entry)) ⌝ }
 {
-    let a = r.at;
-    (a[0] == w[0]) & (a[1] == w[1]) & (a[2] == w[2]) & (a[3] == w[3]) & (a[4] == w[4]) & (a[5] == w[5]) & (a[6] == w[6]) & (a[7] == w[7]) & (a[8] == w[8]) & (a[9] == w[9]) & (a[10] == w[10]) & (a[11] == w[11]) & (a[12] == w[12]) & (a[13] == w[13]) & (a[14] == w[14])
+    (0 == w[1]) & (0 == w[2]) & (0 == w[3]) & (0 == w[4]) & (0 == w[5]) & (0 == w[6]) & (0 == w[7]) & (0 == w[8]) & (0 == w[9]) & (0 == w[10]) & (0 == w[11]) & (0 == w[12]) & (0 == w[13]) & (0 == w[14])
+}
+
+fn clear_4(w: &[u32]) -> bool
+    requires { ⌜ 15 ≤ length (now w) ⌝ }
+    ensures { λ b. ⌜ b ≡ clearFrom 4 11 (now (w .entry)) ⌝ }
+{
+    (0 == w[4]) & (0 == w[5]) & (0 == w[6]) & (0 == w[7]) & (0 == w[8]) & (0 == w[9]) & (0 == w[10]) & (0 == w[11]) & (0 == w[12]) & (0 == w[13]) & (0 == w[14])
+}
+
+fn clear_7(w: &[u32]) -> bool
+    requires { ⌜ 15 ≤ length (now w) ⌝ }
+    ensures { λ b. ⌜ b ≡ clearFrom 7 8 (now (w .entry)) ⌝ }
+{
+    (0 == w[7]) & (0 == w[8]) & (0 == w[9]) & (0 == w[10]) & (0 == w[11]) & (0 == w[12]) & (0 == w[13]) & (0 == w[14])
+}
+
+fn clear_9(w: &[u32]) -> bool
+    requires { ⌜ 15 ≤ length (now w) ⌝ }
+    ensures { λ b. ⌜ b ≡ clearFrom 9 6 (now (w .entry)) ⌝ }
+{
+    (0 == w[9]) & (0 == w[10]) & (0 == w[11]) & (0 == w[12]) & (0 == w[13]) & (0 == w[14])
+}
+
+fn clear_11(w: &[u32]) -> bool
+    requires { ⌜ 15 ≤ length (now w) ⌝ }
+    ensures { λ b. ⌜ b ≡ clearFrom 11 4 (now (w .entry)) ⌝ }
+{
+    (0 == w[11]) & (0 == w[12]) & (0 == w[13]) & (0 == w[14])
+}
+
+fn clear_13(w: &[u32]) -> bool
+    requires { ⌜ 15 ≤ length (now w) ⌝ }
+    ensures { λ b. ⌜ b ≡ clearFrom 13 2 (now (w .entry)) ⌝ }
+{
+    (0 == w[13]) & (0 == w[14])
+}
+
+// Whether this is a goal's number.
+fn own_goal(k: u32) -> bool
+    ensures { λ b. ⌜ b ≡ ownGoal k ⌝ }
+{
+    goal_number(goal_by(k)) == k
+}
+
+// With k records read of two: whether the places behind their links are 0.
+fn own_two(w: &[u32], k: u32) -> bool
+    requires { ⌜ 15 ≤ length (now w) ⌝ }
+    ensures { λ b. ⌜ b ≡ ownTwo k (now (w .entry)) ⌝ }
+{
+    match k {
+        0 => clear_7(w),
+        1 => clear_9(w),
+        2 => clear_11(w),
+        _ => false,
+    }
+}
+
+// The same of four.
+fn own_four(w: &[u32], k: u32) -> bool
+    requires { ⌜ 15 ≤ length (now w) ⌝ }
+    ensures { λ b. ⌜ b ≡ ownFour k (now (w .entry)) ⌝ }
+{
+    match k {
+        0 => clear_7(w),
+        1 => clear_9(w),
+        2 => clear_11(w),
+        3 => clear_13(w),
+        _ => k == 4,
+    }
+}
+
+// Whether the numbers of a task fit its phase f and its goal or count k.
+fn own_by(w: &[u32], f: u32, k: u32) -> bool
+    requires { ⌜ 15 ≤ length (now w) ⌝ }
+    ensures { λ b. ⌜ b ≡ ownBy f k (now (w .entry)) ⌝ }
+{
+    match f {
+        0 => clear_1(w),
+        1 => own_goal(k) & clear_4(w),
+        2 => own_goal(k) & clear_7(w),
+        3 => own_two(w, k),
+        4 => own_four(w, k),
+        5 => own_four(w, k),
+        _ => false,
+    }
 }
 
 // Whether the first 15 numbers are those of the task that they read as.
@@ -354,7 +438,7 @@ fn own_row(w: &[u32]) -> bool
     requires { ⌜ 15 ≤ length (now w) ⌝ }
     ensures { λ r. ⌜ r ≡ ownRow (now (w .entry)) ⌝ }
 {
-    same_row(row_of(task_by(w)), w)
+    own_by(w, w[0], w[3])
 }
 
 // Whether the numbers are a state.
