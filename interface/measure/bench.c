@@ -2,8 +2,10 @@
  *
  *   bench ratios [REPEATS]   each traffic at 64, 256, 1,024 and 4,096 slots
  *   bench growth [REPEATS]   a step by slots, fares and height
+ *   bench look SIDE          200,000 calls of look ups once, by tiebeamer, plain or asking: to count instructions
  *
- * A time is the median of the repeats. Both sides must give the same answers and leave the same numbers. */
+ * A time is the processor time of this program, the median of the repeats. All sides must give the same answers and leave
+ * the same table. */
 #include <stdio.h>
 #include <stdlib.h>
 #include <string.h>
@@ -209,7 +211,7 @@ static uint64_t replay(const struct side *side) {
 
 static double now(void) {
     struct timespec t;
-    clock_gettime(CLOCK_MONOTONIC, &t);
+    clock_gettime(CLOCK_PROCESS_CPUTIME_ID, &t);
     return (double)t.tv_sec * 1e9 + (double)t.tv_nsec;
 }
 
@@ -360,10 +362,25 @@ static void growth(int repeats) {
     }
 }
 
+static void look(const char *name) {
+    anew(1024);
+    fill(256, 1000000);
+    look_ups(1000000);
+    memcpy(table, made.table, sizeof table);
+    state = made.state;
+    for (int k = 0; k < SIDES; k++)
+        if (!strcmp(name, sides[k]->name))
+            printf("%u calls, sum %llu\n", made.count, (unsigned long long)replay(sides[k]));
+}
+
 int main(int words, char **word) {
+    if (words == 3 && !strcmp(word[1], "look")) {
+        look(word[2]);
+        return 0;
+    }
     int repeats = words > 2 ? atoi(word[2]) : 11;
     if (words < 2 || repeats < 1 || repeats > REPEATS_MOST)
-        fail("usage: bench ratios|growth [REPEATS]");
+        fail("usage: bench ratios|growth [REPEATS] | look SIDE");
     if (!strcmp(word[1], "growth"))
         growth(repeats);
     else

@@ -280,3 +280,57 @@ impl Told {
         )
     }
 }
+
+#[cfg(test)]
+mod tests {
+    use super::*;
+    use crate::probe::bytes;
+
+    const SLOTS: usize = 8;
+
+    /// A reset of eight slots as another program would tell it, two spare
+    /// numbers behind table and state.
+    fn told_reset() -> Vec<u32> {
+        let (length, state) = (6 * SLOTS + 2, STATE_NUMBERS + 2);
+        let mut all = vec![SLOTS as u32, length as u32, state as u32];
+        all.extend([0, 0, 0, 0, 0, 0, 0, 6 * SLOTS as u32, STATE_NUMBERS as u32]);
+        all.extend([0, LENT]);
+        all.extend([LENT; FIGURES]);
+        all.extend(vec![0; state]);
+        let mut table = vec![0; length];
+        table[..12].copy_from_slice(&[1, u32::MAX, 0, 255, 1, 0, 1, u32::MAX, 0, 255, 0, 0]);
+        all.extend(table);
+        all
+    }
+
+    fn shadowed(numbers: &[u32]) -> io::Result<Told> {
+        run(&mut &bytes(numbers)[..])
+    }
+
+    #[test]
+    fn the_same_numbers_pass() {
+        let told = shadowed(&told_reset()).expect("no difference");
+        assert_eq!((told.count.probes, told.refused), (1, [0, 0]));
+        assert_eq!(told.numbers as usize, 9 + STATE_NUMBERS + 2 + 6 * SLOTS + 2);
+    }
+
+    #[test]
+    fn any_other_number_is_seen() {
+        let numbers = told_reset();
+        for place in 12..numbers.len() {
+            let mut other = numbers.clone();
+            other[place] ^= 1;
+            assert!(shadowed(&other).is_err(), "place {place}");
+        }
+    }
+
+    #[test]
+    fn a_difference_is_named() {
+        let mut numbers = told_reset();
+        let last = numbers.len() - 3;
+        numbers[last] = 9;
+        let error = shadowed(&numbers).expect_err("a difference");
+        let told = error.to_string();
+        assert!(told.ends_with("table 47 is 9, by these rules 0"), "{told}");
+    }
+}

@@ -105,7 +105,13 @@ fn store_turn(w: &mut [u32], i: usize, m: u32, u: u32, a: Turn, committed: bool)
         }
         Turn::Done(b) => {
             let more = one_if(number_of(b) == 6);
-            store_task(w, i, Task { work: Work::Idle }, m + one_if(committed), u + more);
+            store_task(
+                w,
+                i,
+                Task { work: Work::Idle },
+                m + one_if(committed),
+                u + more,
+            );
             b
         }
     }
