@@ -7,7 +7,8 @@
 //! `words` and `picture` show call files and what they do, `ride` is for
 //! rides that are compared with what they must give. `probe` makes single
 //! calls on any table and state, `statecode` writes a state as numbers, and
-//! `damage` makes random damaged probes.
+//! `damage` makes random damaged probes. `shadow` compares the calls that
+//! another program made.
 
 pub mod allowed;
 pub mod answer;
@@ -25,6 +26,7 @@ pub mod random;
 pub mod reach;
 pub mod ride;
 pub mod settle;
+pub mod shadow;
 pub mod statecode;
 pub mod step;
 pub mod table;

@@ -13,6 +13,7 @@ use second::make::{make, Kind};
 use second::picture::{svg, text, Scene};
 use second::probe;
 use second::ride::{antt, parse, run, show, Ridden, Ride, Trouble};
+use second::shadow;
 use second::words;
 
 const USAGE: &str = "usage:
@@ -27,6 +28,8 @@ const USAGE: &str = "usage:
   second damage SEED COUNT [--bad]
                                   write random damaged probes; --bad: the last one is
                                   none
+  second shadow < CALLS           make the calls of another program once more, and
+                                  compare every number that it left
   second encode FILE.txt          write the call file that a text says
   second decode FILE.calls        write a call file as text
   second words FILE.txt [OUTPUT]  show a ride beside its answers in words; OUTPUT has
@@ -71,6 +74,7 @@ fn act(words: &[String]) -> Result<(), Stop> {
         ["probe"] => run_probes(false),
         ["probe", "--count"] => run_probes(true),
         ["probe", "--cut", place] => cut_probe(place),
+        ["shadow"] => shadow_calls(),
         ["damage", seed, count] => make_probes(seed, count, false),
         ["damage", seed, count, "--bad"] => make_probes(seed, count, true),
         ["encode", file] => say(&calltext::bytes(&text_lines(file)?)),
@@ -136,6 +140,18 @@ fn run_probes(count: bool) -> Result<(), Stop> {
         (Err(error), _) => return said(Err(error)),
     }
     said(out.flush())
+}
+
+/// The first difference is told, and ends it.
+fn shadow_calls() -> Result<(), Stop> {
+    let mut input = BufReader::with_capacity(1 << 20, io::stdin().lock());
+    match shadow::run(&mut input) {
+        Ok(told) => say(told.told().as_bytes()),
+        Err(error) => Err(Stop {
+            code: 1,
+            message: error.to_string(),
+        }),
+    }
 }
 
 fn cut_probe(place: &str) -> Result<(), Stop> {

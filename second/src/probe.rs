@@ -211,7 +211,7 @@ fn read_rest(input: &mut impl Read, head: &[u32]) -> io::Result<Option<Probe>> {
 
 /// Adds up to `count` numbers, fewer where the input ends. Gives back how
 /// many bytes there were.
-fn read_numbers(input: &mut impl Read, count: usize, to: &mut Vec<u32>) -> io::Result<usize> {
+pub fn read_numbers(input: &mut impl Read, count: usize, to: &mut Vec<u32>) -> io::Result<usize> {
     let mut buffer = vec![0; 4 * count];
     let mut have = 0;
     while have < buffer.len() {

@@ -105,11 +105,17 @@ module _ (st : State) (h : length (st .tasks) ≡ 8) where
       sym (ap (λ (l : List ℕ). getD l 121 0) (append-assoc (rows (st .tasks)) (st .m ∷ []) (st .u ∷ [])))
       ∙ getD-at (rows (st .tasks) ++ (st .m ∷ [])) (st .u) [] 0 121 (length-append (rows (st .tasks)) (st .m ∷ []) ∙ omega (arith, first-120))
 
-  state-back : stateBy (encode st) ≡ st
+  -- what a state is written as reads as this state
+  pub state-back : stateBy (encode st) ≡ st
   unfolding stateBy
   state-back = simp (eight-back, m-back, u-back)
 
-  -- what a state is written as reads as this state
+  -- and is a state
+  pub state-own : isState (encode st) ≡ true
+  unfolding isState
+  state-own = rw state-back (same-self (encode st))
+
+  -- so it decodes as this state
   pub decode-encode : decode (encode st) ≡ got st
   unfolding decode isState ifB
   decode-encode = simp (state-back, same-self (encode st))

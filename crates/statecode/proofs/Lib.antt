@@ -1,5 +1,6 @@
 pub mod Same
 pub mod Inverse
 pub mod Writing
-pub mod Reading
 pub mod Examples
+pub mod Own
+pub mod Rule

@@ -1,5 +1,6 @@
 // A state as 122 numbers, and back (docs/PROBE.md): eight tasks of 15 numbers each, then m, then u.
 use state::fresh_state;
+use state::one_if;
 use terms::Goal;
 use terms::Job;
 use terms::Links;
@@ -15,9 +16,13 @@ use terms::Work;
 ghost use mathlib.Core.Path.{_≡_};
 ghost use mathlib.Core.List.{_++_};
 ghost use Prim.Native.Nat.{_+_, _*_, _≤_, _<_};
-ghost use lib.ListN.{length, drop};
+ghost use lib.ListN.{length, getD, take, drop, set};
 ghost use lib.Seq.{paste};
-ghost use Rattle.statecode.specs.Code.{goalNumber, noLinks, noPath, places, putRow, takeRow, settleRow, phaseRow, workRow, rows, encode, jobBy, pathBy, linksBy, goalBy, putBy, takeBy, settleBy, phaseBy, taskBy, stateBy, sameNumbers, noState, decode};
+ghost use mathlib.Core.Bool.{true};
+ghost use Rattle.terms.specs.Task.{workSettles};
+ghost use Rattle.machine.specs.State.{settling, sound, taskAt};
+ghost use Rattle.statecode.specs.Own.{clearFrom, ownGoal, ownTwo, ownFour, ownBy, ownRow, storing};
+ghost use Rattle.statecode.specs.Code.{isState, goalNumber, noLinks, noPath, places, putRow, takeRow, settleRow, phaseRow, workRow, rows, encode, jobBy, pathBy, linksBy, goalBy, putBy, takeBy, settleBy, phaseBy, taskBy, stateBy, sameNumbers, noState, decode};
 
 // The numbers of one task.
 pub struct Row {
@@ -326,21 +331,6 @@ fn state_by(w: &[u32]) -> State
     }
 }
 
-fn same_numbers(a: &[u32], b: &[u32]) -> bool
-    requires { ⌜ length (now a) ≡ length (now b) ⌝ }
-    ensures { λ r. ⌜ r ≡ sameNumbers (now (a .entry)) (now (b .entry)) ⌝ }
-{
-    let l = a.len();
-    let mut i: usize = 0;
-    while i < l {
-        if a[i] != b[i] {
-            return false;
-        }
-        i += 1;
-    }
-    true
-}
-
 fn no_state() -> GotState
     ensures { λ r. ⌜ r ≡ noState ⌝ }
 {
@@ -350,29 +340,240 @@ fn no_state() -> GotState
     }
 }
 
-// Whether the numbers are those of the state that they read as.
-fn is_own(w: &[u32], st: State) -> bool
-    requires { ⌜ length (now w) ≡ 122 ⌝ }
-    ensures { λ r. ⌜ r ≡ sameNumbers (encode st) (now (w .entry)) ⌝ }
+// Whether all places from one on are 0.
+fn clear_1(w: &[u32]) -> bool
+    requires { ⌜ 15 ≤ length (now w) ⌝ }
+    ensures { λ b. ⌜ b ≡ clearFrom 1 14 (now (w .entry)) ⌝ }
 {
-    let mut own = [0u32; 122];
-    write_state(&mut own, st);
-    same_numbers(&own, w)
+    (0 == w[1])
+        & (0 == w[2])
+        & (0 == w[3])
+        & (0 == w[4])
+        & (0 == w[5])
+        & (0 == w[6])
+        & (0 == w[7])
+        & (0 == w[8])
+        & (0 == w[9])
+        & (0 == w[10])
+        & (0 == w[11])
+        & (0 == w[12])
+        & (0 == w[13])
+        & (0 == w[14])
+}
+
+fn clear_4(w: &[u32]) -> bool
+    requires { ⌜ 15 ≤ length (now w) ⌝ }
+    ensures { λ b. ⌜ b ≡ clearFrom 4 11 (now (w .entry)) ⌝ }
+{
+    (0 == w[4])
+        & (0 == w[5])
+        & (0 == w[6])
+        & (0 == w[7])
+        & (0 == w[8])
+        & (0 == w[9])
+        & (0 == w[10])
+        & (0 == w[11])
+        & (0 == w[12])
+        & (0 == w[13])
+        & (0 == w[14])
+}
+
+fn clear_7(w: &[u32]) -> bool
+    requires { ⌜ 15 ≤ length (now w) ⌝ }
+    ensures { λ b. ⌜ b ≡ clearFrom 7 8 (now (w .entry)) ⌝ }
+{
+    (0 == w[7])
+        & (0 == w[8])
+        & (0 == w[9])
+        & (0 == w[10])
+        & (0 == w[11])
+        & (0 == w[12])
+        & (0 == w[13])
+        & (0 == w[14])
+}
+
+fn clear_9(w: &[u32]) -> bool
+    requires { ⌜ 15 ≤ length (now w) ⌝ }
+    ensures { λ b. ⌜ b ≡ clearFrom 9 6 (now (w .entry)) ⌝ }
+{
+    (0 == w[9]) & (0 == w[10]) & (0 == w[11]) & (0 == w[12]) & (0 == w[13]) & (0 == w[14])
+}
+
+fn clear_11(w: &[u32]) -> bool
+    requires { ⌜ 15 ≤ length (now w) ⌝ }
+    ensures { λ b. ⌜ b ≡ clearFrom 11 4 (now (w .entry)) ⌝ }
+{
+    (0 == w[11]) & (0 == w[12]) & (0 == w[13]) & (0 == w[14])
+}
+
+fn clear_13(w: &[u32]) -> bool
+    requires { ⌜ 15 ≤ length (now w) ⌝ }
+    ensures { λ b. ⌜ b ≡ clearFrom 13 2 (now (w .entry)) ⌝ }
+{
+    (0 == w[13]) & (0 == w[14])
+}
+
+// Whether this is a goal's number.
+fn own_goal(k: u32) -> bool
+    ensures { λ b. ⌜ b ≡ ownGoal k ⌝ }
+{
+    goal_number(goal_by(k)) == k
+}
+
+// With k records read of two: whether the places behind their links are 0.
+fn own_two(w: &[u32], k: u32) -> bool
+    requires { ⌜ 15 ≤ length (now w) ⌝ }
+    ensures { λ b. ⌜ b ≡ ownTwo k (now (w .entry)) ⌝ }
+{
+    match k {
+        0 => clear_7(w),
+        1 => clear_9(w),
+        2 => clear_11(w),
+        _ => false,
+    }
+}
+
+// The same of four.
+fn own_four(w: &[u32], k: u32) -> bool
+    requires { ⌜ 15 ≤ length (now w) ⌝ }
+    ensures { λ b. ⌜ b ≡ ownFour k (now (w .entry)) ⌝ }
+{
+    match k {
+        0 => clear_7(w),
+        1 => clear_9(w),
+        2 => clear_11(w),
+        3 => clear_13(w),
+        _ => k == 4,
+    }
+}
+
+// Whether the numbers of a task fit its phase f and its goal or count k.
+fn own_by(w: &[u32], f: u32, k: u32) -> bool
+    requires { ⌜ 15 ≤ length (now w) ⌝ }
+    ensures { λ b. ⌜ b ≡ ownBy f k (now (w .entry)) ⌝ }
+{
+    match f {
+        0 => clear_1(w),
+        1 => own_goal(k) & clear_4(w),
+        2 => own_goal(k) & clear_7(w),
+        3 => own_two(w, k),
+        4 => own_four(w, k),
+        5 => own_four(w, k),
+        _ => false,
+    }
+}
+
+// Whether the first 15 numbers are those of the task that they read as.
+fn own_row(w: &[u32]) -> bool
+    requires { ⌜ 15 ≤ length (now w) ⌝ }
+    ensures { λ r. ⌜ r ≡ ownRow (now (w .entry)) ⌝ }
+{
+    own_by(w, w[0], w[3])
+}
+
+// Whether the numbers are a state.
+pub fn is_state(w: &[u32]) -> bool
+    ensures { λ r. ⌜ r ≡ isState (now (w .entry)) ⌝ }
+{
+    if w.len() != 122 {
+        return false;
+    }
+    let mut i: usize = 0;
+    while i < 8 {
+        if !own_row(&w[15 * i..]) {
+            return false;
+        }
+        i += 1;
+    }
+    true
 }
 
 // The state of a row of numbers, if it is one.
 pub fn read_state(w: &[u32]) -> GotState
     ensures { λ r. ⌜ r ≡ decode (now (w .entry)) ⌝ }
 {
-    if w.len() != 122 {
-        return no_state();
-    }
-    let st = state_by(w);
-    if !is_own(w, st) {
+    if !is_state(w) {
         return no_state();
     }
     GotState {
         fine: true,
-        state: st,
+        state: state_by(w),
     }
+}
+
+// Task i of a state.
+pub fn task_at(w: &[u32], i: usize) -> Task
+    requires { ⌜ (length (now w) ≡ 122) × (i < 8) ⌝ }
+    ensures { λ r. ⌜ r ≡ taskAt (stateBy (now (w .entry))) i ⌝ }
+{
+    task_by(&w[15 * i..])
+}
+
+// Whether the task of the first 15 numbers settles.
+fn settles_by(w: &[u32]) -> bool
+    requires { ⌜ 15 ≤ length (now w) ⌝ }
+    ensures { λ r. ⌜ r ≡ workSettles (taskBy (now (w .entry)) .work) ⌝ }
+{
+    let f = w[0];
+    let k = w[3];
+    match f {
+        0 => false,
+        1 => goal_by(k).settles(),
+        2 => goal_by(k).settles(),
+        3 => false,
+        4 => false,
+        _ => true,
+    }
+}
+
+// How many tasks of a state settle.
+fn count_settling_by(w: &[u32]) -> u32
+    requires { ⌜ length (now w) ≡ 122 ⌝ }
+    ensures { λ r. ⌜ (r ≡ settling (stateBy (now (w .entry)) .tasks) 8) × (r ≤ 8) ⌝ }
+{
+    let mut n: u32 = 0;
+    let mut i: usize = 0;
+    while i < 8 {
+        n += one_if(settles_by(&w[15 * i..]));
+        i += 1;
+    }
+    n
+}
+
+// Whether m is in range and c is at most m. At most eight tasks settle: they are counted only where it matters.
+fn is_sound_with(w: &[u32], m: u32, u: u32) -> bool
+    requires { ⌜ (length (now w) ≡ 122) × (m ≡ getD (now w) 120 0) × (u ≡ getD (now w) 121 0) ⌝ }
+    ensures { λ b. ⌜ b ≡ sound (stateBy (now (w .entry))) ⌝ }
+{
+    let c = u as u64;
+    if c + 8 <= m as u64 {
+        return m <= 1000000;
+    }
+    let all = c + count_settling_by(w) as u64;
+    (m <= 1000000) & (all <= m as u64)
+}
+
+pub fn is_sound_by(w: &[u32]) -> bool
+    requires { ⌜ length (now w) ≡ 122 ⌝ }
+    ensures { λ b. ⌜ b ≡ sound (stateBy (now (w .entry))) ⌝ }
+{
+    is_sound_with(w, w[120], w[121])
+}
+
+// m and u are written.
+fn put_ends(w: &mut [u32], m: u32, u: u32)
+    requires { ⌜ length (now w) ≡ 122 ⌝ }
+    ensures { λ _. ⌜ now (w .exit) ≡ set (set (now (w .entry)) 120 m) 121 u ⌝ }
+{
+    w[120] = m;
+    w[121] = u;
+}
+
+// A task is stored in a state, with m and u.
+pub fn store_task(w: &mut [u32], i: usize, k: Task, m: u32, u: u32)
+    requires { ⌜ (length (now w) ≡ 122) × (isState (now w) ≡ true) × (i < 8) ⌝ }
+    ensures { λ _. ⌜ (stateBy (now (w .exit)) ≡ storing (stateBy (now (w .entry))) i k m u) × (isState (now (w .exit)) ≡ true) ⌝ }
+{
+    put_row_at(w, 15 * i, row_of(k));
+    put_ends(w, m, u);
 }

@@ -25,7 +25,7 @@ ghost use Rattle.machine.specs.Table.{view, slots};
 ghost use Rattle.machine.specs.Step.{phaseStep, stepWork, stepOf};
 
 // The step of a task by its phase; m put-ins are committed.
-fn phase_step(t: &mut [u32], n: u32, m: u32, j: Job, f: Phase) -> Outcome
+pub fn phase_step(t: &mut [u32], n: u32, m: u32, j: Job, f: Phase) -> Outcome
     requires { ⌜ Sized (now t) n ⌝ }
     ensures { λ r. ⌜ acted (now (t .exit)) r ≡ played (now (t .entry)) (phaseStep (view n (now (t .entry))) n m j f) ⌝ }
 {

@@ -4,3 +4,4 @@ pub mod Kept
 pub mod Never
 pub mod Strict
 pub mod Unchanged
+pub mod ByNumbers

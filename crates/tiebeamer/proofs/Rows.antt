@@ -1,11 +1,12 @@
 -- The rows of the interface's definitions, as the code goes through them: numbers that are no state, no such call, the call.
 use mathlib.Core.Path.{_≡_, refl, sym, ap, _∙_}
-use mathlib.Core.Bool.{true, false, not, _&&_}
+use mathlib.Core.Bool.{Bool, true, false, not, _&&_}
 use mathlib.Core.List.{List}
-use Prim.Native.Nat.{ℕ}
+use Prim.Native.Nat.{ℕ, _≤_}
 use lib.Dec.{leb, eqb}
 use lib.ListN.{length}
-use borrow.Author.Tests.{eq-eqb, ne-eqb, not-false}
+use borrow.Author.Tests.{eq-eqb, ne-eqb, not-false, leb-true}
+use Rattle.machine.proofs.Tests.{both-first}
 use Rattle.terms.specs.declared.Operation.{Operation}
 use Rattle.terms.specs.declared.Answer.{Answer}
 use Rattle.terms.specs.declared.Out.{Out}
@@ -18,7 +19,9 @@ use Rattle.machine.specs.Calls.{resetOf, beginOf, abandonOf, tidyOf, figuresOf,
 use Rattle.machine.specs.CallFile.{operationOf, endLine, runOf}
 use Rattle.whole.specs.Whole.{listed}
 use Rattle.statecode.specs.declared.GotState.{GotState}
-use Rattle.statecode.specs.Code.{encode, decode}
+use Rattle.statecode.specs.Code.{encode, stateBy, isState, got, noState, decode}
+use Rattle.statecode.proofs.Own.{none-read, some-read, own-encode}
+use Rattle.tiebeamer.specs.Numbers.{outBy}
 use Rattle.statecode.proofs.Inverse.{length-encode, encode-decode, eight-read}
 use Rattle.tiebeamer.specs.Interface.{told, asNumbers, resetTold, beginTold, stepTold, runTold, abandonTold, tidyTold, shown, reportShown, figuresShown, listedShown, listShown}
 use Rattle.tiebeamer.proofs.Priceless.{Free, reset-free, begin-free, abandon-free, tidy-free}
@@ -127,3 +130,31 @@ module _ (t w : List ℕ) (g : GotState) (eg : g ≡ decode w) where
         (l l′ : List ℕ) (a : Answer) (n : ℕ) → listed a l′ ≡ listOf t (g .state) l → n ≡ numberOf a → shown n l′ ≡ listShown t w l
     unfolding listShown listedShown listed ifB
     list-made l l′ a n e en = simp (← eg, f, ← e, en)
+
+-- the same where the state stays in its numbers: b says whether they are one
+module _ (t w : List ℕ) (b : Bool) (eb : b ≡ isState w) where
+  pub step-no-state : not b ≡ true → (i p : ℕ) → told 50 p t w ≡ stepTold t w i p
+  step-no-state e i p = step-none t w noState (none-read w b eb e) refl i p
+
+  pub run-no-state : not b ≡ true → (i c p : ℕ) → told 50 p t w ≡ runTold t w i c p
+  run-no-state e i c p = run-none t w noState (none-read w b eb e) refl i c p
+
+  module _ (f : not b ≡ false) where
+    pub is-own : isState w ≡ true
+    is-own = sym eb ∙ not-false b f
+
+    pub run-no-call : (i c p : ℕ) → not (leb 1 c && leb c 65535) ≡ true → told 51 p t w ≡ runTold t w i c p
+    run-no-call i c p e = run-other t w (got (stateBy w)) (some-read w b eb f (stateBy w) refl) refl i c p e
+
+    module _ (t′ w′ : List ℕ) (a : Answer) (own : isState w′ ≡ true) (n q : ℕ) (en : n ≡ numberOf a) (eq : q ≡ priceOf a) where
+      pub step-stored : (i p : ℕ) → after t′ (outBy w′ a) ≡ stepOf t (stateBy w) i → told n q t′ w′ ≡ stepTold t w i p
+      step-stored i p e =
+          step-made t w (got (stateBy w)) (some-read w b eb f (stateBy w) refl) refl t′ (outBy w′ a) n w′ en (sym (own-encode w′ own)) i p q eq e
+
+      pub run-stored :
+          (i c p : ℕ) → not (leb 1 c && leb c 65535) ≡ false → after t′ (outBy w′ a) ≡ runOf c t (stateBy w) i → told n q t′ w′ ≡ runTold t w i c p
+      run-stored i c p h e =
+          run-made t w (got (stateBy w)) (some-read w b eb f (stateBy w) refl) refl t′ (outBy w′ a) n w′ en (sym (own-encode w′ own)) i c p q h eq e
+
+pub at-least-one : (c : ℕ) → not (leb 1 c && leb c 65535) ≡ false → 1 ≤ c
+at-least-one c e = leb-true 1 c (both-first (leb 1 c) (leb c 65535) (not-false (leb 1 c && leb c 65535) e))

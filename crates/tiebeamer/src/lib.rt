@@ -4,23 +4,40 @@ use beginning::abandon;
 use beginning::begin;
 use callfile::operation_of;
 use callfile::price_of;
-use callfile::run;
+use fields::length_fits;
+use fields::slots_of;
 use resetting::reset;
+use state::job_fits;
 use state::number_of;
+use state::one_if;
+use statecode::is_sound_by;
+use statecode::is_state;
 use statecode::read_state;
+use statecode::store_task;
+use statecode::task_at;
 use statecode::write_state;
-use stepping::step;
+use stepping::phase_step;
+use terms::Answer;
 use terms::Figures;
 use terms::Job;
 use terms::Out;
+use terms::Task;
+use terms::Turn;
+use terms::Work;
 use whole::figures;
 use whole::list;
 use whole::tidy;
 ghost use mathlib.Core.Path.{_≡_};
+ghost use mathlib.Core.Bool.{true};
+ghost use Prim.Native.Nat.{_≤_, _<_};
 ghost use lib.ListN.{length};
+ghost use Rattle.machine.specs.Contract.{Sized, after, turnedOut};
+ghost use Rattle.machine.specs.Step.{stepWork, stepOf};
+ghost use Rattle.machine.specs.Table.{slots};
 ghost use Rattle.machine.specs.Answers.{numberOf};
-ghost use Rattle.machine.specs.CallFile.{endLine};
-ghost use Rattle.statecode.specs.Code.{encode};
+ghost use Rattle.machine.specs.CallFile.{endLine, runOf};
+ghost use Rattle.statecode.specs.Code.{encode, isState, stateBy};
+ghost use Rattle.tiebeamer.specs.Numbers.{outBy};
 ghost use Rattle.tiebeamer.specs.Interface.{told, resetTold, beginTold, stepTold, runTold, abandonTold, tidyTold, shown, figuresShown, listShown};
 
 // The state is written; the answer's number.
@@ -75,6 +92,85 @@ pub extern "C" fn tiebeamer_begin(
     hand_back(state, o)
 }
 
+// A turn of task i is stored in the state; its answer.
+fn store_turn(w: &mut [u32], i: usize, m: u32, u: u32, a: Turn, committed: bool) -> Answer
+    requires { ⌜ (length (now w) ≡ 122) × (isState (now w) ≡ true) × (i < 8) × (m ≡ stateBy (now w) .m) × (u ≡ stateBy (now w) .u) × (m ≤ 1000000) × (u ≤ 1000000) ⌝ }
+    ensures { λ r. ⌜ (outBy (now (w .exit)) r ≡ turnedOut (stateBy (now (w .entry))) i a committed) × (isState (now (w .exit)) ≡ true) ⌝ }
+{
+    match a {
+        Turn::Hurt => Answer::Damaged,
+        Turn::Next(k) => {
+            store_task(w, i, k, m + one_if(committed), u);
+            Answer::Accepted
+        }
+        Turn::Done(b) => {
+            let more = one_if(number_of(b) == 6);
+            store_task(
+                w,
+                i,
+                Task { work: Work::Idle },
+                m + one_if(committed),
+                u + more,
+            );
+            b
+        }
+    }
+}
+
+// A step of task i, which does k.
+fn step_work_by(t: &mut [u32], n: u32, w: &mut [u32], i: usize, k: Work) -> Answer
+    requires { ⌜ Sized (now t) n × (n ≡ slots (now t)) × (length (now w) ≡ 122) × (isState (now w) ≡ true) × (i < 8) ⌝ }
+    ensures { λ r. ⌜ (after (now (t .exit)) (outBy (now (w .exit)) r) ≡ stepWork (now (t .entry)) (stateBy (now (w .entry))) i k) × (isState (now (w .exit)) ≡ true) ⌝ }
+{
+    match k {
+        Work::Idle => Answer::TaskIdle,
+        Work::Busy(j, f) => {
+            if !(is_sound_by(w) & job_fits(j)) {
+                return Answer::Damaged;
+            }
+            let m = w[120];
+            let u = w[121];
+            let r = phase_step(t, n, m, j, f);
+            let a = r.turn;
+            store_turn(w, i, m, u, a, r.committed)
+        }
+    }
+}
+
+// A step of task i, the state in its numbers: only the task's own are read as a task and written.
+fn step_by(t: &mut [u32], w: &mut [u32], i: u32) -> Answer
+    requires { ⌜ (length (now w) ≡ 122) × (isState (now w) ≡ true) ⌝ }
+    ensures { λ r. ⌜ (after (now (t .exit)) (outBy (now (w .exit)) r) ≡ stepOf (now (t .entry)) (stateBy (now (w .entry))) i) × (isState (now (w .exit)) ≡ true) ⌝ }
+{
+    let l = t.len();
+    if !length_fits(l) {
+        return Answer::Length;
+    }
+    if 7 < i {
+        return Answer::TaskNumber;
+    }
+    let at = i as usize;
+    let k = task_at(w, at);
+    let f = k.work;
+    step_work_by(t, slots_of(l), w, at, f)
+}
+
+// So many steps, as long as they answer 0.
+fn run_by(t: &mut [u32], w: &mut [u32], i: u32, count: u32) -> Answer
+    requires { ⌜ (length (now w) ≡ 122) × (isState (now w) ≡ true) × (1 ≤ count) ⌝ }
+    ensures { λ r. ⌜ (after (now (t .exit)) (outBy (now (w .exit)) r) ≡ runOf count (now (t .entry)) (stateBy (now (w .entry))) i) × (isState (now (w .exit)) ≡ true) ⌝ }
+{
+    let mut left = count;
+    loop {
+        let a = step_by(t, w, i);
+        let on = (number_of(a) == 0) & (left != 1);
+        if !on {
+            return a;
+        }
+        left -= 1;
+    }
+}
+
 #[no_mangle]
 pub extern "C" fn tiebeamer_step(
     table: &mut [u32],
@@ -84,15 +180,12 @@ pub extern "C" fn tiebeamer_step(
 ) -> u32
     ensures { λ r. ⌜ told r (now (price .exit)) (now (table .exit)) (now (state .exit)) ≡ stepTold (now (table .entry)) (now (state .entry)) task (now (price .entry)) ⌝ }
 {
-    let g = read_state(state);
-    if !g.fine {
+    if !is_state(state) {
         return 50;
     }
-    let st = g.state;
-    let o = step(table, st, task);
-    let a = o.answer;
+    let a = step_by(table, state, task);
     *price = price_of(a);
-    hand_back(state, o)
+    number_of(a)
 }
 
 // So many steps, as long as they answer 0.
@@ -106,18 +199,15 @@ pub extern "C" fn tiebeamer_run(
 ) -> u32
     ensures { λ r. ⌜ told r (now (price .exit)) (now (table .exit)) (now (state .exit)) ≡ runTold (now (table .entry)) (now (state .entry)) task count (now (price .entry)) ⌝ }
 {
-    let g = read_state(state);
-    if !g.fine {
+    if !is_state(state) {
         return 50;
     }
     if !((1 <= count) & (count <= 65535)) {
         return 51;
     }
-    let st = g.state;
-    let o = run(table, st, task, count);
-    let a = o.answer;
+    let a = run_by(table, state, task, count);
     *price = price_of(a);
-    hand_back(state, o)
+    number_of(a)
 }
 
 #[no_mangle]

@@ -1,0 +1,48 @@
+use mathlib.Core.Path.{refl}
+use Rattle.statecode.specs.Own.{clearFrom}
+use borrow.Author.Needs.{needs}
+use Rattle.statecode.proofs.clear_9.Statement.{statement}
+use Rattle.statecode.proofs.clear_9.Tie as tie
+use Rattle.statecode.proofs.clear_9.Reads as reads
+use Rattle.statecode.proofs.clear_9.Lts as lts
+
+-- src/lib.rt:369:11
+shared-slice-read-result : tie.Need-shared-slice-read-result
+shared-slice-read-result c = search needs
+
+-- src/lib.rt:369:25
+shared-slice-read-result-2 : tie.Need-shared-slice-read-result-2
+shared-slice-read-result-2 c = search needs
+
+-- src/lib.rt:369:40
+shared-slice-read-result-3 : tie.Need-shared-slice-read-result-3
+shared-slice-read-result-3 c = search needs
+
+-- src/lib.rt:369:55
+shared-slice-read-result-4 : tie.Need-shared-slice-read-result-4
+shared-slice-read-result-4 c = search needs
+
+-- src/lib.rt:369:70
+shared-slice-read-result-5 : tie.Need-shared-slice-read-result-5
+shared-slice-read-result-5 c = search needs
+
+-- src/lib.rt:369:85
+shared-slice-read-result-6 : tie.Need-shared-slice-read-result-6
+shared-slice-read-result-6 c = search needs
+
+-- src/lib.rt:365:1
+returns : tie.Need-returns
+unfolding clearFrom
+returns c = refl
+
+pub clear-9-spec : {M : Type 1} → statement M
+clear-9-spec =
+    tie.close
+    (tie.spec
+    shared-slice-read-result
+    shared-slice-read-result-2
+    shared-slice-read-result-3
+    shared-slice-read-result-4
+    shared-slice-read-result-5
+    shared-slice-read-result-6
+    returns)
