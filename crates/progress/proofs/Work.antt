@@ -1,17 +1,18 @@
 -- THE WORK LEFT falls with every settling commit, and only a level put-in adds to it.
-use Prim.Native.Nat.{_+_, _-_, _≤_, suc, ℕ}
+use Prim.Native.Nat.{_*_, _+_, _-_, _≤_, suc, ℕ}
 use mathlib.Core.Bool.{Bool, false, true}
 use mathlib.Core.Logic.{_⊎_, inl, inr}
 use mathlib.Core.Path.{_≡_, ap, refl, sym}
 use native.Mathlib.Omega.{arith}
-use Rattle.commits.proofs.Acts.{Act, Kind, doubles, levelPut, promotes, puts, rotates1, rotates2, takes}
+use Rattle.commits.proofs.Acts.{Act, Kind, doubles, levelPut, promotes, puts, puts-in, rotates1, rotates2, settles, takes, takes-out}
 use Rattle.commits.proofs.Forms.{deep, flat, lean, rank-join, renew, turn}
 use Rattle.commits.proofs.Grounds.{InnerRank, Two, above, below}
 use Rattle.commits.proofs.Shape.{Shape, ranked-join, shape-at}
 use Rattle.machine.specs.Table.{View}
 use Rattle.progress.specs.Work.{addsTo, takesOff, weight, work, workC}
 use Rattle.routes.proofs.Level.{lv-eq, lv-not-255, lvs-le, lvs-not, lvs-yes}
-use Rattle.routes.specs.Route.{lv, rankC}
+use Rattle.routes.specs.Route.{lev, lv, lvs, rankC}
+use Rattle.trees.specs.Marks.{Marked}
 use Rattle.trees.specs.Rank.{rank}
 use Rattle.trees.specs.Tree.{Ctx, Tree, hole, join, leaf, node, plug, top}
 use Rattle.views.proofs.Law.{same-or}
@@ -190,3 +191,53 @@ act-work (doubles c b z x y y′ x′ z′ kx ky kz rx ry j W A B S fy fx fz up 
       work-apart (suc j) j S (λ d. omega arith),
       weight-yes (suc j) rx lx,
     )
+
+-- by kind
+settle-level : {v w : View} {t t′ : Tree} (act : Act v settles t w t′) → levelPut act ≡ false
+settle-level (promotes c b z z′ key r X S free lx near up lim) = refl
+settle-level (rotates1 c b z x x′ z′ kx kz rx j W Y S fx fz xz lx hy hs lim) = refl
+settle-level (rotates2 c b z x x′ z′ kx kz rx j W Y S fx fz xz lx hy hw hs up lim) = refl
+settle-level (doubles c b z x y y′ x′ z′ kx ky kz rx ry j W A B S fy fx fz up lx ey hw hs lim) = refl
+
+pub settle-work : {v w : View} {t t′ : Tree} (act : Act v settles t w t′) → Shape t → suc (work 255 t′) ≤ work 255 t
+settle-work act f = omega (arith, act-work act f, ap addsTo (settle-level act))
+
+take-level : {v w : View} {k : ℕ} {t t′ : Tree} (act : Act v (takes-out k) t w t′) → levelPut act ≡ false
+take-level (takes c b p kp rp l kl pl rl s′ S free fare) = refl
+
+pub take-work : {v w : View} {k : ℕ} {t t′ : Tree} (act : Act v (takes-out k) t w t′) → Shape t → work 255 t′ ≤ work 255 t
+take-work act f = omega (arith, act-work act f, ap addsTo (take-level act))
+
+pub put-work : {v w : View} {k p : ℕ} {t t′ : Tree} (act : Act v (puts-in k p) t w t′) → Shape t → work 255 t′ ≤ work 255 t + addsTo (levelPut act)
+put-work act f = omega (arith, act-work act f)
+
+-- ---- 1 to 28 for each level record
+
+weight-28 : (q r : ℕ) → 1 ≤ q → weight q r ≤ 28 * lvs q r 1
+weight-28 q r h = go (lv q r) refl
+  where
+    go : (b : Bool) → lv q r ≡ b → weight q r ≤ 28 * lvs q r 1
+    go true e = omega (arith, weight-le q r, lv-eq q r e, lvs-yes q r 1 e)
+    go false e = omega (arith, weight-not q r (λ y. let z : _≡_ {A = ℕ} 0 1 = cc in omega arith))
+
+pub work-28 : (q : ℕ) (t : Tree) → 1 ≤ q → Marked t → work q t ≤ 28 * lev q t
+work-28 q (leaf s k pr rk) h m = weight-28 q rk h
+work-28 q (node s k rk l r) h m =
+    let one : 1 ≤ rk = elim (m .0) [ inl e ↦ omega (arith, e .1) | inr e ↦ omega (arith, e .1) ] in
+    omega (arith, weight-28 q rk h, work-28 rk l one (m .1), work-28 rk r one (m .2))
+
+weight-1 : (q r : ℕ) → (r ≤ 28) ⊎ (r ≡ 255) → lvs q r 1 ≤ weight q r
+weight-1 q r m = go (lv q r) refl
+  where
+    go : (b : Bool) → lv q r ≡ b → lvs q r 1 ≤ weight q r
+    go true e =
+        elim m [
+          | inl h ↦ omega (arith, weight-yes q r e, lvs-le q r 1)
+          | inr h ↦ absurd (lv-not-255 q (rw (← h) e))
+        ]
+    go false e = omega (arith, lvs-not q r 1 (λ y. let z : _≡_ {A = ℕ} 0 1 = cc in omega arith))
+
+pub work-1 : (q : ℕ) (t : Tree) → Marked t → lev q t ≤ work q t
+work-1 q (leaf s k pr rk) m = weight-1 q rk (elim m [ inl e ↦ inr (e .2) | inr e ↦ inl (omega (arith, e .2)) ])
+work-1 q (node s k rk l r) m =
+    omega (arith, weight-1 q rk (elim (m .0) [ inl e ↦ inr (e .1) | inr e ↦ inl (e .2) ]), work-1 rk l (m .1), work-1 rk r (m .2))

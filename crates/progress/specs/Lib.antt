@@ -1,1 +1,2 @@
 pub mod Work
+pub mod Tally
