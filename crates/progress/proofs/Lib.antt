@@ -1,3 +1,5 @@
 pub mod Work
 pub mod Tally
 pub mod Settlings
+pub mod Sees
+pub mod Walks
