@@ -3,3 +3,4 @@ pub mod Tally
 pub mod Settlings
 pub mod Sees
 pub mod Walks
+pub mod Readings
