@@ -4,3 +4,4 @@ pub mod Settlings
 pub mod Sees
 pub mod Walks
 pub mod Readings
+pub mod Onward
