@@ -5,3 +5,6 @@ pub mod Sees
 pub mod Walks
 pub mod Readings
 pub mod Onward
+pub mod Cases
+pub mod Ends
+pub mod Look

@@ -3,7 +3,7 @@ use Prim.Native.Nat.{_+_, _<_, suc, ℕ}
 use borrow.Author.Tests.{le-ltb, lt-ltb}
 use lib.ListN.{length}
 use mathlib.Core.Bool.{Bool, true}
-use mathlib.Core.List.{List}
+use mathlib.Core.List.{List, []}
 use mathlib.Core.Path.{_∙_, _≡_, ap, refl, subst}
 use native.Mathlib.Omega.{arith}
 use Rattle.commits.proofs.Shape.{Shape}
@@ -57,6 +57,10 @@ start-sees v t g = refl
 fits-job : (j : Job) → j .number < 1000000 → j .price < 100000 → jobFits j ≡ true
 unfolding jobFits numberFits priceFits
 fits-job j a b = rw (lt-ltb (j .number) 1000000 a, lt-ltb (j .price) 100000 b) refl
+
+pub puts-none : (t : List ℕ) → puts t [] ≡ t
+unfolding puts
+puts-none t = refl
 
 -- where a history stands, of a busy task i
 module _ {p : Point} (s : Stands p) (i : ℕ) (lt : i < 8) (j : Job) (f : Phase) (is : taskAt (p .state) i .work ≡ Busy j f) where

@@ -240,9 +240,9 @@ module _ (n : ℕ) (v : View) (t : Tree) (i : Carries v t) (sh : Shape t) (b : B
       (λ w. if-elim (Goes-On v t j f D) _ (λ x. hurts-on f D refl)
       (λ x. if-elim (Goes-On v t j f D) _
       (λ r z. (
-        let one = y-one q o a c d (s .2) (both-first _ _ (not-false _ x)) in
-        reads f (Settling q (SettleDouble a c d (linksOf (v (aroundOf q a c d .y))))) D 1 _ _ (v (aroundOf q a c d .y)) refl (in-tree-is (v (aroundOf q a c d .y)) one) refl refl
-        (o, (s .0, s .1, s .2, refl, one), refl) (omega arith)
+      let one = y-one q o a c d (s .2) (both-first _ _ (not-false _ x)) in
+      reads f (Settling q (SettleDouble a c d (linksOf (v (aroundOf q a c d .y))))) D 1 _ _ (v (aroundOf q a c d .y)) refl (in-tree-is (v (aroundOf q a c d .y)) one) refl refl
+      (o, (s .0, s .1, s .2, refl, one), refl) (omega arith)
       ))
       (λ r. tested f D refl _ _ _ (test-three q o a c d (s .0) (s .1) (s .2)) (rotate-by-on f D refl _ q _ _ _))))
       (λ w. tested f D refl _ _ _ (test-three q o a c d (s .0) (s .1) (s .2)) (promote-on f D refl _ q a c _)))

@@ -115,6 +115,24 @@ Sees v t (PuttingIn q s) d = Two v q × PutSees v q s × (d ≡ putLeft s)
 Sees v t (TakingOut q s) d = Three v q × TakeSees v q s × (d ≡ takeLeft s)
 Sees v t (Settling q s) d = Three v q × SettleSees v q s × (d ≡ settleLeft s)
 
+-- there is always one
+pub sees-pos : (v : View) (t : Tree) (f : Phase) (d : ℕ) → Sees v t f d → 1 ≤ d
+sees-pos v t (Start g) d s = omega arith
+sees-pos v t (Walk g q) d s = omega (arith, s .2, s .3)
+sees-pos v t (PuttingIn q PutParent) d s = omega (arith, s .2)
+sees-pos v t (PuttingIn q (PutLeaf a)) d s = omega (arith, s .2)
+sees-pos v t (PuttingIn q (PutCommit a b)) d s = omega (arith, s .2)
+sees-pos v t (TakingOut q TakeGrand) d s = omega (arith, s .2)
+sees-pos v t (TakingOut q (TakeParent a)) d s = omega (arith, s .2)
+sees-pos v t (TakingOut q (TakeLeft a b)) d s = omega (arith, s .2)
+sees-pos v t (TakingOut q (TakeRight a b c)) d s = omega (arith, s .2)
+sees-pos v t (TakingOut q (TakeCommit a b c e)) d s = omega (arith, s .2)
+sees-pos v t (Settling q SettleGrand) d s = omega (arith, s .2)
+sees-pos v t (Settling q (SettleParent a)) d s = omega (arith, s .2)
+sees-pos v t (Settling q (SettleChoose a b)) d s = omega (arith, s .2)
+sees-pos v t (Settling q (SettleRotate a b c)) d s = omega (arith, s .2)
+sees-pos v t (Settling q (SettleDouble a b c e)) d s = omega (arith, s .2)
+
 -- about to walk from the entry
 abbrev pub isStart : Phase → Bool
 isStart (Start g) = true
