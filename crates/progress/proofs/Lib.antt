@@ -8,3 +8,4 @@ pub mod Onward
 pub mod Cases
 pub mod Ends
 pub mod Look
+pub mod Restarts

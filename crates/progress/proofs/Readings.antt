@@ -17,7 +17,8 @@ use Rattle.machine.specs.Rows.{aroundOf, doubleWrites, rotateWrites}
 use Rattle.machine.specs.Settling.{chooseBy, chooseStep, commitFour, commitThree, commitTwo, doubleBy, doubleDo, doubleFirst, doubleStep, doubleTurn, promoteBy, promoteDo, readGrand, readOn, readParent, rotateBy, rotateDo, rotateFirst, rotateOn, rotateStep, rotateTurn, rotateTwoDo, settleStep, testFour, testThree, testTwo, turnFormed}
 use Rattle.machine.specs.Table.{View, Write, slot1, slot2, slot3}
 use Rattle.machine.specs.TakeOut.{readTakeGrand, readTakeLeft, readTakeParent, readTakeRight, takeCommit, takeRoom, takeStep, takeTest}
-use Rattle.progress.proofs.Sees.{Goes-On, Onward, Over, Sees, Three, Two, isStart}
+use Rattle.progress.proofs.Sees.{Goes-On, Onward, Over, Sees, Three, Two}
+use Rattle.progress.specs.Restarts.{isStart}
 use Rattle.steps.proofs.Facts.{formed-plain, inner-by, leads-to, linked-formed, side-link}
 use Rattle.steps.specs.Does.{walks}
 use Rattle.terms.specs.Task.{busy, noted}

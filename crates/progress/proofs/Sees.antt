@@ -11,6 +11,7 @@ use Rattle.machine.specs.Commit.{Did}
 use Rattle.machine.specs.Record.{isLeaf, leads, linksOf}
 use Rattle.machine.specs.Rows.{aroundOf}
 use Rattle.machine.specs.Table.{View}
+use Rattle.progress.specs.Restarts.{isStart}
 use Rattle.steps.specs.Does.{walks}
 use Rattle.terms.specs.Task.{busy, noGrand}
 use Rattle.terms.specs.declared.Goal.{Goal}
@@ -132,14 +133,6 @@ sees-pos v t (Settling q (SettleParent a)) d s = omega (arith, s .2)
 sees-pos v t (Settling q (SettleChoose a b)) d s = omega (arith, s .2)
 sees-pos v t (Settling q (SettleRotate a b c)) d s = omega (arith, s .2)
 sees-pos v t (Settling q (SettleDouble a b c e)) d s = omega (arith, s .2)
-
--- about to walk from the entry
-abbrev pub isStart : Phase → Bool
-isStart (Start g) = true
-isStart (Walk g q) = false
-isStart (PuttingIn q s) = false
-isStart (TakingOut q s) = false
-isStart (Settling q s) = false
 
 -- a turn without writes: no walk starts again, no walk finds damage, and there are fewer steps left
 abbrev pub Onward : View → Tree → Job → Phase → ℕ → Turn → Type 0

@@ -1,3 +1,4 @@
 pub mod Work
 pub mod Tally
 pub mod Alone
+pub mod Restarts
