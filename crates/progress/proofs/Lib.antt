@@ -9,3 +9,4 @@ pub mod Cases
 pub mod Ends
 pub mod Look
 pub mod Restarts
+pub mod Rounds

@@ -77,12 +77,12 @@ module _ (i : ℕ) (lt : i < 8) (j : Job) where
   one-more : (D : ℕ) → Run D → {p : Point} (s : Stands p) → rank (s .tree) ≡ 255 → (f : Phase) → goalOf f ≡ Serve LookUp → (d : ℕ) → d ≤ suc D → Case s i j f d → Ends real p i (suc D) FoundOrNot
   one-more D run s top f g d le (hurt w e k) = true-false (walks f) (look-walks f g) w
   one-more D run s top f g d le (ended a q e k) = ends-now (rw e (look-answer (viewAt s) (s .tree) j f a g q)) (omega arith)
-  one-more D run s top f g d le (onward f′ d′ z same is′ g′ st se less) =
+  one-more D run s top f g d le (onward f′ d′ z same is′ g′ st se less o) =
       let s′ = keeps s (step i) in
       ends-later z (run _ s′ (same-top s s′ same top) f′ is′ (g′ ∙ g) d′ (same-sees s s′ same f′ d′ se) (omega arith))
-  one-more D run s top f g d le (puts-now b h e k c) = absurd (let y : Serve LookUp ≡ Serve PutIn = sym g ∙ h in let z : _≡_ {A = ℕ} 0 1 = cc in omega arith)
+  one-more D run s top f g d le (puts-now b h e k c o) = absurd (let y : Serve LookUp ≡ Serve PutIn = sym g ∙ h in let z : _≡_ {A = ℕ} 0 1 = cc in omega arith)
   one-more D run s top f g d le (takes-now h e k) = absurd (let y : Serve LookUp ≡ Serve TakeOut = sym g ∙ h in let z : _≡_ {A = ℕ} 0 1 = cc in omega arith)
-  one-more D run s top f g d le (settles-now h e k w) = absurd (let y : Serve LookUp ≡ Settle = sym g ∙ h in let z : _≡_ {A = ℕ} 0 1 = cc in omega arith)
+  one-more D run s top f g d le (settles-now h e k w o) = absurd (let y : Serve LookUp ≡ Settle = sym g ∙ h in let z : _≡_ {A = ℕ} 0 1 = cc in omega arith)
 
   look-run : (D : ℕ) → Run D
   look-run zero p s top f is g d sees le = absurd (omega (arith, sees-pos (viewAt s) (s .tree) f d sees))

@@ -8,7 +8,7 @@ use mathlib.Core.Path.{_∙_, _≡_, ap, refl, subst}
 use native.Mathlib.Omega.{arith}
 use Rattle.commits.proofs.Shape.{Shape}
 use Rattle.demand2.proofs.After.{taskAfter}
-use Rattle.demand2.proofs.Counts.{stored-here}
+use Rattle.demand2.proofs.Counts.{settling-stored, stored-here}
 use Rattle.demand2.proofs.Passes.{viewAt}
 use Rattle.demand2.proofs.Stands.{Stands, fits-is, slots-is, sound-is}
 use Rattle.fares.proofs.Whole.{Bounded}
@@ -19,7 +19,7 @@ use Rattle.machine.specs.Answers.{numberOf}
 use Rattle.machine.specs.Choice.{ifB}
 use Rattle.machine.specs.Commit.{Did}
 use Rattle.machine.specs.Record.{numberFits, priceFits}
-use Rattle.machine.specs.State.{jobFits, taskAt}
+use Rattle.machine.specs.State.{countOpen, jobFits, one, settling, taskAt}
 use Rattle.machine.specs.Step.{Left, answered, carried, phaseStep, stepOf, stepWork, turned}
 use Rattle.machine.specs.Table.{View, puts}
 use Rattle.progress.proofs.Readings.{put-on, settle-on, take-on}
@@ -27,11 +27,12 @@ use Rattle.progress.proofs.Sees.{Goes-On, Sees, afterWalk}
 use Rattle.progress.proofs.Walks.{start-on, walk-on}
 use Rattle.progress.specs.Alone.{answerOf}
 use Rattle.steps.specs.Trail.{WorkOk}
-use Rattle.terms.specs.Task.{busy, idleTask}
+use Rattle.terms.specs.Task.{busy, goalOf, goalSettles, idleTask, workSettles}
 use Rattle.terms.specs.declared.Goal.{Goal}
 use Rattle.terms.specs.declared.Job.{Job}
 use Rattle.terms.specs.declared.Phase.{Phase}
 use Rattle.terms.specs.declared.Phase.the-variants.{PuttingIn, Settling, Start, TakingOut, Walk}
+use Rattle.terms.specs.declared.State.{State}
 use Rattle.terms.specs.declared.Task.{Task}
 use Rattle.terms.specs.declared.Turn.{Turn}
 use Rattle.terms.specs.declared.Turn.the-variants.{Done, Hurt, Next}
@@ -86,6 +87,14 @@ module _ {p : Point} (s : Stands p) (i : ℕ) (lt : i < 8) (j : Job) (f : Phase)
   pub next-answer : answerOf real p i ≡ numberOf (answered (d .turn))
   unfolding carried
   next-answer = ap (λ (l : Left). numberOf (l .answer)) step-is
+
+  -- c after it: one less if the task settled, one more if it settles
+  pub next-open : (k : Task) (c : Bool) → d .turn ≡ Next k → countOpen (next .state) + one (goalSettles (goalOf f)) ≡ countOpen (p .state) + one (workSettles (k .work))
+  unfolding advance carried countOpen
+  next-open k c e =
+      let st : stepOf (p .table) (p .state) i .state ≡ turned (p .state) i (Next k) (d .committed) = ap (λ (l : Left). l .state) step-is ∙ ap (λ a. turned (p .state) i a (d .committed)) e in
+      let old : one (workSettles (taskAt (p .state) i .work)) ≡ one (goalSettles (goalOf f)) = ap (λ w. one (workSettles w)) is in
+      omega (arith, ap (λ (x : State). x .u + settling (x .tasks) 8) st, old, settling-stored (p .state .tasks) i k 8 (omega (arith, s .eight)) lt)
 
   pub next-task : taskAt (next .state) i .work ≡ taskAfter (d .turn) (busy j f) .work
   unfolding advance carried

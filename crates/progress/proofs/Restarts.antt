@@ -24,7 +24,6 @@ use Rattle.progress.proofs.Onward.{same-sight}
 use Rattle.progress.proofs.Sees.{Sees, afterWalk}
 use Rattle.progress.specs.Restarts.{No-Restart, NotBegin, Untouched, isStart, startsAt, startsWork}
 use Rattle.progress.specs.Work.{work}
-use Rattle.steps.proofs.Choosing.{o}
 use Rattle.steps.specs.Does.{turnOfPut, walks}
 use Rattle.terms.specs.Task.{busy, idleTask}
 use Rattle.terms.specs.declared.Job.{Job}
@@ -70,14 +69,14 @@ own-step {p} s top i lt j f d is sees same w s′ = go (next-case s top i lt j f
           | inr y ↦ subst (Calmly s′ i) (sym k) (record { left-entry = y; d = d; sees = same-sees s s′ same f d sees })
         ]
     go (ended a q e k) = subst (Calmly s′ i) (sym k) tt
-    go (onward f′ d′ z st is′ g′ un se less) = subst (Calmly s′ i) (sym is′) (record { left-entry = un; d = d′; sees = same-sees s s′ same f′ d′ se })
-    go (puts-now b h e k c) = subst (Calmly s′ i) (sym k) (put b c)
+    go (onward f′ d′ z st is′ g′ un se less o) = subst (Calmly s′ i) (sym is′) (record { left-entry = un; d = d′; sees = same-sees s s′ same f′ d′ se })
+    go (puts-now b h e k c o) = subst (Calmly s′ i) (sym k) (put b c)
       where
         put : (b : Bool) → (b ≡ true → advance real p (step i) .table ≡ p .table → ⊥) → Calmly s′ i (taskAfter (turnOfPut j b) (busy j f) .work)
         put true c = absurd (c refl same)
         put false c = tt
     go (takes-now h e k) = subst (Calmly s′ i) (sym k) tt
-    go (settles-now h e k l) = absurd (omega (arith, l s′, ap (work 255) (same-sight s s′ same .0)))
+    go (settles-now h e k l o) = absurd (omega (arith, l s′, ap (work 255) (same-sight s s′ same .0)))
 
 -- there are eight tasks
 beyond : (ts : List Task) (i : ℕ) → length ts ≤ i → getD ts i idleTask ≡ idleTask
