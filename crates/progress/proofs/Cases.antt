@@ -113,7 +113,7 @@ module _ {p : Point} (s : Stands p) (top : rank (s .tree) ≡ 255) (i : ℕ) (lt
 
       open-on : {k : Task} → did .turn ≡ Next k → k ≡ busy j f′ → goalOf f′ ≡ goalOf f → countOpen (after-step .state) ≡ countOpen (p .state)
       open-on {k} turn ek g =
-          let o = next-open s i lt j f is k false turn in
+          let o = next-open s i lt j f is k turn in
           let a : one (workSettles (k .work)) ≡ one (goalSettles (goalOf f)) = ap (λ (x : Task). one (workSettles (x .work))) ek ∙ ap (λ y. one (goalSettles y)) g in
           omega arith
 
@@ -124,7 +124,7 @@ module _ {p : Point} (s : Stands p) (top : rank (s .tree) ≡ 255) (i : ℕ) (lt
   put-open : (b : Bool) → did .turn ≡ turnOfPut j b → goalOf f ≡ Serve PutIn → b ≡ true → countOpen (after-step .state) ≡ countOpen (p .state) + 1
   unfolding ifB
   put-open true turn g e =
-      let o = next-open s i lt j f is (busy j (Start Settle)) true turn in
+      let o = next-open s i lt j f is (busy j (Start Settle)) turn in
       let a : one (goalSettles (goalOf f)) ≡ 0 = ap (λ y. one (goalSettles y)) g in
       omega arith
   put-open false turn g e = absurd (let z : _≡_ {A = ℕ} 0 1 = cc in omega arith)
@@ -139,7 +139,7 @@ module _ {p : Point} (s : Stands p) (top : rank (s .tree) ≡ 255) (i : ℕ) (lt
       let turn = ap (λ (x : Did). x .turn) e in
       settles-now g (answer-is (Next (busy j (Start Settle))) turn) (task-is (Next (busy j (Start Settle))) turn)
       (λ s′. rw (tree-after ws (ap (λ (x : Did). x .writes) e) (ch .act) s′) (settle-work (ch .act) (s .shape)))
-      (let o = next-open s i lt j f is (busy j (Start Settle)) false turn in let a : one (goalSettles (goalOf f)) ≡ 1 = ap (λ y. one (goalSettles y)) g in omega arith)
+      (let o = next-open s i lt j f is (busy j (Start Settle)) turn in let a : one (goalSettles (goalOf f)) ≡ 1 = ap (λ y. one (goalSettles y)) g in omega arith)
 
   pub next-case : Case s i j f d
   next-case =

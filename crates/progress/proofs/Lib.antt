@@ -10,3 +10,5 @@ pub mod Ends
 pub mod Look
 pub mod Restarts
 pub mod Rounds
+pub mod Bounds
+pub mod Budget

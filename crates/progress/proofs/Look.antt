@@ -111,7 +111,7 @@ unfolding leafFares ifB
 plain-fares (leaf s k pr rk) p e = absurd (let y = rw (p .1) at e in let z : _≡_ {A = ℕ} 0 1 = cc in omega arith)
 plain-fares (node s k rk l r) p e = plain-fares l (p .2) (first-none (fares l) (fares r) e)
 
-empty-height : (t : Tree) → Shape t → rank t ≡ 255 → fares t ≡ [] → height t ≡ 0
+pub empty-height : (t : Tree) → Shape t → rank t ≡ 255 → fares t ≡ [] → height t ≡ 0
 empty-height (leaf s k pr rk) sh top e = refl
 empty-height (node s k rk l r) sh top e =
     let ek : k ≡ topNumber = elim (sh .marks .0) [ inl q ↦ q .0 | inr q ↦ absurd (omega (arith, q .2)) ] in

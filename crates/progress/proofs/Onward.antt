@@ -89,9 +89,9 @@ module _ {p : Point} (s : Stands p) (i : ℕ) (lt : i < 8) (j : Job) (f : Phase)
   next-answer = ap (λ (l : Left). numberOf (l .answer)) step-is
 
   -- c after it: one less if the task settled, one more if it settles
-  pub next-open : (k : Task) (c : Bool) → d .turn ≡ Next k → countOpen (next .state) + one (goalSettles (goalOf f)) ≡ countOpen (p .state) + one (workSettles (k .work))
+  pub next-open : (k : Task) → d .turn ≡ Next k → countOpen (next .state) + one (goalSettles (goalOf f)) ≡ countOpen (p .state) + one (workSettles (k .work))
   unfolding advance carried countOpen
-  next-open k c e =
+  next-open k e =
       let st : stepOf (p .table) (p .state) i .state ≡ turned (p .state) i (Next k) (d .committed) = ap (λ (l : Left). l .state) step-is ∙ ap (λ a. turned (p .state) i a (d .committed)) e in
       let old : one (workSettles (taskAt (p .state) i .work)) ≡ one (goalSettles (goalOf f)) = ap (λ w. one (workSettles w)) is in
       omega (arith, ap (λ (x : State). x .u + settling (x .tasks) 8) st, old, settling-stored (p .state .tasks) i k 8 (omega (arith, s .eight)) lt)

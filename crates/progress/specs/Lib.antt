@@ -2,3 +2,4 @@ pub mod Work
 pub mod Tally
 pub mod Alone
 pub mod Restarts
+pub mod Budget
