@@ -46,14 +46,14 @@ pub ends-as : {M : Machine} {p : Point} {i limit : ℕ} {E E′ : ℕ → Type 0
 ends-as f h = record { before = h .before; within = h .within; going = h .going; last = f _ (h .last) }
 
 -- no step of task i answers 17 from here on
-abbrev Unhurt : ℕ → Point → Type 0
+abbrev pub Unhurt : ℕ → Point → Type 0
 Unhurt i p = (ds : List Ask) → answerOf real (goes real p ds) i ≡ 17 → ⊥
 
 unhurt-now : (i : ℕ) (p : Point) → Unhurt i p → answerOf real p i ≡ 17 → ⊥
 unfolding goes
 unhurt-now i p u = u []
 
-unhurt-on : (i : ℕ) (p : Point) → Unhurt i p → (c : Ask) → Unhurt i (advance real p c)
+pub unhurt-on : (i : ℕ) (p : Point) → Unhurt i p → (c : Ask) → Unhurt i (advance real p c)
 unfolding goes
 unhurt-on i p u c ds = u (c ∷ ds)
 
@@ -66,7 +66,7 @@ operation-is f o o′ g h = let y : Serve o ≡ Serve o′ = sym g ∙ h in cc
 module _ (i : ℕ) (lt : i < 8) (j : Job) where
   -- ---- settling
 
-  abbrev Settled : ℕ → Type 0
+  abbrev pub Settled : ℕ → Type 0
   Settled x = (x ≡ 3) ⊎ (x ≡ 6)
 
   settle-answer : (v : View) (t : Tree) (f : Phase) (a : Answer) → goalOf f ≡ Settle → Quiet v t j f (Done a) → Settled (numberOf a)
@@ -119,13 +119,13 @@ module _ (i : ℕ) (lt : i < 8) (j : Job) where
   end-answer TakeOut x e = inl e
 
   -- the steps after the commit
-  abbrev beyondCommit : Operation → ℕ → ℕ
+  abbrev pub beyondCommit : Operation → ℕ → ℕ
   beyondCommit LookUp c = 0
   beyondCommit PutIn c = settleBudget (c + 1)
   beyondCommit TakeOut c = 0
 
   module _ (o : Operation) (c : ℕ) where
-    abbrev ServeRun : ℕ → Type 0
+    abbrev pub ServeRun : ℕ → Type 0
     ServeRun F = (p : Point) (r : Rich p) → Unhurt i p → countOpen (p .state) ≤ c → (f : Phase) → taskAt (p .state) i .work ≡ Busy j f → goalOf f ≡ Serve o
         → (d : ℕ) → Sees (viewAt (r .stands)) (r .stands .tree) f d → d ≤ F → Ends real p i (F + beyondCommit o c) (EndAnswer o)
 
@@ -149,6 +149,6 @@ module _ (i : ℕ) (lt : i < 8) (j : Job) where
     serve-more F run p r u le f g d b (takes-now h e k) = rw (operation-is f o TakeOut g h) (ends-now (inr e) (omega arith))
     serve-more F run p r u le f g d b (settles-now h e k l n) = goal-differs f h g
 
-    serve-run : (F : ℕ) → ServeRun F
+    pub serve-run : (F : ℕ) → ServeRun F
     serve-run zero p r u le f is g d sees b = absurd (omega (arith, sees-pos (viewAt (r .stands)) (r .stands .tree) f d sees))
     serve-run (suc F) p r u le f is g d sees b = serve-more F (serve-run F) p r u le f g d b (next-case (r .stands) (top-is r) i lt j f is d sees)

@@ -12,3 +12,4 @@ pub mod Restarts
 pub mod Rounds
 pub mod Bounds
 pub mod Budget
+pub mod Alone
