@@ -1,0 +1,15 @@
+pub mod Work
+pub mod Tally
+pub mod Settlings
+pub mod Sees
+pub mod Walks
+pub mod Readings
+pub mod Onward
+pub mod Cases
+pub mod Ends
+pub mod Look
+pub mod Restarts
+pub mod Rounds
+pub mod Bounds
+pub mod Budget
+pub mod Alone

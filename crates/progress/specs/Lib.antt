@@ -1,0 +1,5 @@
+pub mod Work
+pub mod Tally
+pub mod Alone
+pub mod Restarts
+pub mod Budget

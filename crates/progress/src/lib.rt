@@ -1,0 +1,1 @@
+// Progress: how many steps a task needs. No code.
