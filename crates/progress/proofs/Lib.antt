@@ -13,3 +13,4 @@ pub mod Rounds
 pub mod Bounds
 pub mod Budget
 pub mod Alone
+pub mod Panel

@@ -3,3 +3,4 @@ pub mod Tally
 pub mod Alone
 pub mod Restarts
 pub mod Budget
+pub mod Panel
