@@ -1,4 +1,4 @@
--- EVERY OPERATION STEPPED ALONE ends within its budget, on every history on which no step answers 17.
+-- EVERY OPERATION STEPPED ALONE ends within its budget, on every history.
 use Prim.Native.Nat.{_*_, _+_, _<_, _≤_, suc, ℕ}
 use lib.ListN.{length}
 use mathlib.Core.List.{List, [], _++_, _∷_}
@@ -11,7 +11,7 @@ use Rattle.demand2.proofs.Stands.{Stands}
 use Rattle.demand3.proofs.Demand3.{low, rich, rich-on}
 use Rattle.demand3.proofs.Rich.{Rich}
 use Rattle.demand3.specs.Demand3.{figuresAt}
-use Rattle.history.specs.History.{Ask, begin}
+use Rattle.history.specs.History.{Ask, begin, step}
 use Rattle.history.specs.Ledger.{Account, Point, advance, goes, history, started}
 use Rattle.history.specs.Machine.{real}
 use Rattle.machine.specs.Answers.{numberOf}
@@ -26,7 +26,7 @@ use Rattle.progress.proofs.Onward.{same-sight}
 use Rattle.progress.proofs.Restarts.{busy-below}
 use Rattle.progress.proofs.Sees.{afterWalk}
 use Rattle.progress.specs.Alone.{Ends, answerOf}
-use Rattle.progress.specs.Budget.{EndAnswer, Never-Damaged, Tasks-End, budget, settleBudget}
+use Rattle.progress.specs.Budget.{EndAnswer, Tasks-End, budget, settleBudget}
 use Rattle.terms.specs.Task.{busy}
 use Rattle.terms.specs.declared.Answer.the-variants.{Accepted}
 use Rattle.terms.specs.declared.Goal.the-variants.{Serve, Settle}
@@ -38,6 +38,7 @@ use Rattle.terms.specs.declared.State.{State}
 use Rattle.terms.specs.declared.Work.the-variants.{Busy}
 use Rattle.trees.specs.Rank.{height}
 use Rattle.trees.specs.Tree.{Tree}
+use Rattle.undamaged.proofs.NoDamage.{no-17}
 
 goes-both : (p : Point) (xs ys : List Ask) → goes real p (xs ++ ys) ≡ goes real (goes real p xs) ys
 unfolding goes
@@ -52,7 +53,7 @@ begun-open s i o j (refused x h) e = absurd (omega arith)
 begun-open s i o j (looks x h) e = absurd h
 begun-open {p} s i o j (begins _ _ _ lt idle f) e = omega (arith, settling-stored (p .state .tasks) i (busy j (Start (Serve o))) 8 (omega (arith, s .eight)) lt)
 
-module _ (never : Never-Damaged real) (t : List ℕ) (st : State) (cs : List Ask) (n : ℕ) (e : length t ≡ 6 * n) (least : 8 ≤ n) (most : n ≤ 4096) where
+module _ (t : List ℕ) (st : State) (cs : List Ask) (n : ℕ) (e : length t ≡ 6 * n) (least : 8 ≤ n) (most : n ≤ 4096) where
   abbrev p : Point
   p = history real t st cs
 
@@ -61,13 +62,13 @@ module _ (never : Never-Damaged real) (t : List ℕ) (st : State) (cs : List Ask
 
   unhurt : (i : ℕ) → Unhurt i p
   unfolding history
-  unhurt i ds h = never t st (cs ++ ds) n e least most i (ap (λ y. answerOf real y i) (goes-both (started real t st) cs ds) ∙ h)
+  unhurt i ds h = no-17 t st (cs ++ ds) (step i) n e least most (ap (λ y. answerOf real y i) (goes-both (started real t st) cs ds) ∙ h)
 
   c-is-figure : countOpen (p .state) ≡ figuresAt real p .c
   c-is-figure = open-is (r .stands) ∙ sym (low r .c-figure)
 
-  entry-ends : (i : ℕ) (j : Job) → taskAt (p .state) i .work ≡ Busy j (Start Settle) → Ends real p i (settleBudget (figuresAt real p .c)) (λ x. (x ≡ 3) ⊎ (x ≡ 6))
-  entry-ends i j is = settle-alone i (busy-below (r .stands) i j (Start Settle) is) j (figuresAt real p .c) p r (unhurt i) (omega (arith, c-is-figure)) is
+  settling-ends : (i : ℕ) (j : Job) → taskAt (p .state) i .work ≡ Busy j (Start Settle) → Ends real p i (settleBudget (figuresAt real p .c)) (λ x. (x ≡ 3) ⊎ (x ≡ 6))
+  settling-ends i j is = settle-alone i (busy-below (r .stands) i j (Start Settle) is) j (figuresAt real p .c) p r (unhurt i) (omega (arith, c-is-figure)) is
 
   budget-is : (o : Operation) (i : ℕ) (lt : i < 8) (j : Job) (h c : ℕ) → ((h + 2) + afterWalk (Serve o)) + beyondCommit i lt j o c ≡ budget o h c
   unfolding budget
@@ -75,20 +76,29 @@ module _ (never : Never-Damaged real) (t : List ℕ) (st : State) (cs : List Ask
   budget-is PutIn i lt j h c = omega arith
   budget-is TakeOut i lt j h c = omega arith
 
+  -- where c was at most that much
+  walk-ends : (c : ℕ) (q : Point) (r : Rich q) (i : ℕ) → Unhurt i q → countOpen (q .state) ≤ c → (o : Operation) (j : Job) → taskAt (q .state) i .work ≡ Busy j (Start (Serve o))
+      → (h : ℕ) → height (r .stands .tree) ≤ h + 1 → Ends real q i (budget o h c) (EndAnswer o)
+  walk-ends c q r i u le o j is h tall =
+      let lt = busy-below (r .stands) i j (Start (Serve o)) is in
+      ends-wider (serve-run i lt j o c ((h + 2) + afterWalk (Serve o)) q r u le (Start (Serve o)) is refl (suc (height (r .stands .tree)) + afterWalk (Serve o)) refl (omega arith))
+      (omega (arith, budget-is o i lt j h c))
+
+  entry-ends : (i : ℕ) (o : Operation) (j : Job) → taskAt (p .state) i .work ≡ Busy j (Start (Serve o)) → Ends real p i (budget o (figuresAt real p .height) (figuresAt real p .c)) (EndAnswer o)
+  entry-ends i o j is = walk-ends (figuresAt real p .c) p r i (unhurt i) (omega (arith, c-is-figure)) o j is (figuresAt real p .height) (height-of r)
+
   begin-ends : (i : ℕ) (o : Operation) (j : Job) → beginOf (p .table) (p .state) i o j .answer ≡ Accepted
       → Ends real (advance real p (begin i o j)) i (budget o (figuresAt real p .height) (figuresAt real p .c)) (EndAnswer o)
   unfolding advance
   begin-ends i o j accepted =
       let s = r .stands in
       let c = figuresAt real p .c in
-      let F = (figuresAt real p .height + 2) + afterWalk (Serve o) in
       let f = begun-facts s i o j (passing s (begin i o j) .passes) (ap numberOf accepted) in
       let r′ = rich-on r (begin i o j) in
       let h : height (r′ .stands .tree) ≡ height (s .tree) = ap height (same-sight s (r′ .stands) (f .1) .0) in
-      ends-wider (serve-run i (f .0) j o c F _ r′ (unhurt-on i p (unhurt i) (begin i o j)) (omega (arith, begun-open s i o j (passing s (begin i o j) .passes) (ap numberOf accepted), c-is-figure))
-      (Start (Serve o)) (f .2) refl (suc (height (r′ .stands .tree)) + afterWalk (Serve o)) refl (omega (arith, h, height-of r)))
-      (omega (arith, budget-is o i (f .0) j (figuresAt real p .height) c))
+      walk-ends c _ r′ i (unhurt-on i p (unhurt i) (begin i o j)) (omega (arith, begun-open s i o j (passing s (begin i o j) .passes) (ap numberOf accepted), c-is-figure))
+      o j (f .2) (figuresAt real p .height) (omega (arith, h, height-of r))
 
 -- THE THEOREM
-pub tasks-end : Never-Damaged real → Tasks-End real
-tasks-end never = record { from-begin = begin-ends never; from-entry = entry-ends never }
+pub tasks-end : Tasks-End real
+tasks-end = record { from-begin = begin-ends; from-entry = entry-ends; settling-from-entry = settling-ends }

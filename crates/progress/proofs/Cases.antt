@@ -29,7 +29,7 @@ use Rattle.progress.specs.Work.{work}
 use Rattle.routes.proofs.Level.{levAt-le}
 use Rattle.routes.proofs.Surgery.{in-tree}
 use Rattle.steps.proofs.Steps.{step-does}
-use Rattle.steps.specs.Does.{Does, Quiet, goes, put-commits, rests, settle-commits, take-commits, turnOfPut, walks}
+use Rattle.steps.specs.Does.{Does, Quiet, moves-on, put-commits, rests, settle-commits, take-commits, turnOfPut, walks}
 use Rattle.terms.specs.Task.{busy, goalOf, goalSettles, workSettles}
 use Rattle.terms.specs.declared.Answer.{Answer}
 use Rattle.terms.specs.declared.Answer.the-variants.{TakenOut}
@@ -118,7 +118,7 @@ module _ {p : Point} (s : Stands p) (top : rank (s .tree) ≡ 255) (i : ℕ) (lt
           omega arith
 
       goal : {k : Task} → Quiet v (s .tree) j f (Next k) → k ≡ busy j f′ → goalOf f′ ≡ goalOf f
-      goal (goes f″ g ok mv) ek = ap goalOf (sym (same-phase j f″ f′ ek)) ∙ g
+      goal (moves-on f″ g ok mv) ek = ap goalOf (sym (same-phase j f″ f′ ek)) ∙ g
 
   -- a put-in that goes on to settle: c is one more
   put-open : (b : Bool) → did .turn ≡ turnOfPut j b → goalOf f ≡ Serve PutIn → b ≡ true → countOpen (after-step .state) ≡ countOpen (p .state) + 1

@@ -16,7 +16,7 @@ use Rattle.machine.specs.Step.{Left, stepOf}
 use Rattle.progress.proofs.Alone.{tasks-end}
 use Rattle.progress.proofs.Look.{look-ups-end}
 use Rattle.progress.specs.Alone.{Ends, FoundOrNot, answerAfter, answerOf}
-use Rattle.progress.specs.Budget.{EndAnswer, Never-Damaged}
+use Rattle.progress.specs.Budget.{EndAnswer}
 use Rattle.progress.specs.Panel.{Every-Run, Look-Up-Run, runAnswer}
 use Rattle.terms.specs.declared.Operation.{Operation}
 use Rattle.terms.specs.declared.Operation.the-variants.{LookUp, PutIn, TakeOut}
@@ -60,6 +60,6 @@ pub look-up-run : Look-Up-Run
 look-up-run t st cs n e least most i j accepted count le =
     ends-run FoundOrNot (not-zero LookUp) i _ count _ (look-ups-end t st cs n e least most i j accepted .by-height) le
 
-pub every-run : Never-Damaged real → Every-Run
-every-run never t st cs n e least most i o j accepted count le =
-    ends-run (EndAnswer o) (not-zero o) i _ count _ (tasks-end never .from-begin t st cs n e least most i o j accepted) le
+pub every-run : Every-Run
+every-run t st cs n e least most i o j accepted count le =
+    ends-run (EndAnswer o) (not-zero o) i _ count _ (tasks-end .from-begin t st cs n e least most i o j accepted) le

@@ -21,7 +21,7 @@ use Rattle.progress.proofs.Work.{put-work, settle-work, take-work, weig
 use Rattle.progress.specs.Tally.{Tally, differs, settlesAt, tallied}
 use Rattle.progress.specs.Work.{addsTo, work}
 use Rattle.routes.proofs.Level.{lv-not-255}
-use Rattle.steps.specs.Does.{Does, Quiet, goes, hurts, leaves, put-commits, rests, settle-commits, settled, stops, take-commits, turnOfPut}
+use Rattle.steps.specs.Does.{Does, Quiet, moves-on, hurts, leaves, put-commits, rests, settle-commits, settled, stops, take-commits, turnOfPut}
 use Rattle.terms.specs.Task.{busy, goalOf, goalSettles, idleTask, workSettles}
 use Rattle.terms.specs.declared.Answer.{Answer}
 use Rattle.terms.specs.declared.Job.{Job}
@@ -64,7 +64,7 @@ never e = absurd (let z : _≡_ {A = ℕ} 0 1 = cc in omega arith)
 
 quiet-settles : (v : View) (t : Tree) (j : Job) (f : Phase) (a : Turn) → Quiet v t j f a → workSettles (taskAfter a (busy j f) .work) ≡ true → goalSettles (goalOf f) ≡ true
 quiet-settles v t j f _ hurts e = e
-quiet-settles v t j f _ (goes f′ g ok mv) e = ap goalSettles (sym g) ∙ e
+quiet-settles v t j f _ (moves-on f′ g ok mv) e = ap goalSettles (sym g) ∙ e
 quiet-settles v t j f _ (stops o a g n) e = never e
 quiet-settles v t j f _ (settled g w l n) e = never e
 quiet-settles v t j f _ (leaves g) e = never e

@@ -9,9 +9,9 @@ use Rattle.history.specs.History.{Ask, begin}
 use Rattle.history.specs.Ledger.{advance, history}
 use Rattle.history.specs.Machine.{Machine}
 use Rattle.machine.specs.State.{taskAt}
-use Rattle.progress.specs.Alone.{Ends, answerOf}
+use Rattle.progress.specs.Alone.{Ends}
 use Rattle.terms.specs.declared.Answer.the-variants.{Accepted}
-use Rattle.terms.specs.declared.Goal.the-variants.{Settle}
+use Rattle.terms.specs.declared.Goal.the-variants.{Serve, Settle}
 use Rattle.terms.specs.declared.Job.{Job}
 use Rattle.terms.specs.declared.Operation.{Operation}
 use Rattle.terms.specs.declared.Operation.the-variants.{LookUp, PutIn, TakeOut}
@@ -36,16 +36,15 @@ budget LookUp h c = h + 2
 budget PutIn h c = (h + 5) + settleBudget (c + 1)
 budget TakeOut h c = h + 7
 
--- no step answers 17 on any history
-abbrev pub Never-Damaged : Machine → Type 0
-Never-Damaged M =
-    (t : List ℕ) (st : State) (cs : List Ask) (n : ℕ) → length t ≡ 6 * n → 8 ≤ n → n ≤ 4096 → (i : ℕ) → answerOf M (history M t st cs) i ≡ 17 → ⊥
-
--- EVERY OPERATION STEPPED ALONE from its begin, at any point of any history, ends within its budget; and so does a settling task that is about to walk from the entry
+-- EVERY OPERATION STEPPED ALONE from its begin, at any point of any history, ends within its budget; and so does one whose task is about to walk from the entry, which is
+-- where every restart leaves it
 pub record Tasks-End (M : Machine) : Type 0 where
   pub from-begin : (t : List ℕ) (st : State) (cs : List Ask) (n : ℕ) → length t ≡ 6 * n → 8 ≤ n → n ≤ 4096
       → (i : ℕ) (o : Operation) (j : Job) → M .begin (history M t st cs .table) (history M t st cs .state) i o j .answer ≡ Accepted
       → Ends M (advance M (history M t st cs) (begin i o j)) i (budget o (figuresAt M (history M t st cs) .height) (figuresAt M (history M t st cs) .c)) (EndAnswer o)
   pub from-entry : (t : List ℕ) (st : State) (cs : List Ask) (n : ℕ) → length t ≡ 6 * n → 8 ≤ n → n ≤ 4096
+      → (i : ℕ) (o : Operation) (j : Job) → taskAt (history M t st cs .state) i .work ≡ Busy j (Start (Serve o))
+      → Ends M (history M t st cs) i (budget o (figuresAt M (history M t st cs) .height) (figuresAt M (history M t st cs) .c)) (EndAnswer o)
+  pub settling-from-entry : (t : List ℕ) (st : State) (cs : List Ask) (n : ℕ) → length t ≡ 6 * n → 8 ≤ n → n ≤ 4096
       → (i : ℕ) (j : Job) → taskAt (history M t st cs .state) i .work ≡ Busy j (Start Settle)
       → Ends M (history M t st cs) i (settleBudget (figuresAt M (history M t st cs) .c)) (λ x. (x ≡ 3) ⊎ (x ≡ 6))
