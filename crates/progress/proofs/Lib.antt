@@ -14,3 +14,4 @@ pub mod Bounds
 pub mod Budget
 pub mod Alone
 pub mod Panel
+pub mod Slots
