@@ -3,6 +3,7 @@ pub mod Tally
 pub mod Settlings
 pub mod Sees
 pub mod Walks
+pub mod Changes
 pub mod Readings
 pub mod Onward
 pub mod Cases
