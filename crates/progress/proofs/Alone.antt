@@ -59,11 +59,11 @@ module _ (never : Never-Damaged real) (t : List ℕ) (st : State) (cs : List Ask
   r : Rich p
   r = rich t st cs n e least most
 
-  unhurt : (i : ℕ) → Unhurt i p
+  pub unhurt : (i : ℕ) → Unhurt i p
   unfolding history
   unhurt i ds h = never t st (cs ++ ds) n e least most i (ap (λ y. answerOf real y i) (goes-both (started real t st) cs ds) ∙ h)
 
-  c-is-figure : countOpen (p .state) ≡ figuresAt real p .c
+  pub c-is-figure : countOpen (p .state) ≡ figuresAt real p .c
   c-is-figure = open-is (r .stands) ∙ sym (low r .c-figure)
 
   entry-ends : (i : ℕ) (j : Job) → taskAt (p .state) i .work ≡ Busy j (Start Settle) → Ends real p i (settleBudget (figuresAt real p .c)) (λ x. (x ≡ 3) ⊎ (x ≡ 6))

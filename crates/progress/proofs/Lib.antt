@@ -15,3 +15,7 @@ pub mod Bounds
 pub mod Budget
 pub mod Alone
 pub mod Panel
+pub mod Drift
+pub mod Walked
+pub mod Stale
+pub mod Tasks
