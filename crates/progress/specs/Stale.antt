@@ -5,7 +5,6 @@ use lib.ListN.{length}
 use mathlib.Core.List.{List}
 use mathlib.Core.Logic.{_⊎_}
 use mathlib.Core.Path.{_≡_}
-
 use Rattle.demand3.specs.Demand3.{figuresAt}
 use Rattle.history.specs.History.{Ask}
 use Rattle.history.specs.Ledger.{Point, history}
@@ -46,10 +45,11 @@ abbrev pub GoalAnswer : Goal → ℕ → Type 0
 GoalAnswer (Serve o) x = EndAnswer o x
 GoalAnswer Settle x = (x ≡ 3) ⊎ (x ≡ 6)
 
--- there is such a number of links, and with it
+-- there is such a number of links, no more than the table has slots, and with it
 pub record Any-Task-Ends (M : Machine) (p : Point) (i : ℕ) (j : Job) (f : Phase) : Type 0 where
   pub L : ℕ
   pub walk-left : WalkLeft (view (slots (p .table)) (p .table)) (j .number) f L
+  pub fits : L ≤ slots (p .table)
   pub ends : Ends M p i ((L + 5) + goalBudget (goalOf f) (figuresAt M p .height) (figuresAt M p .c)) (GoalAnswer (goalOf f))
 
 abbrev pub All-Tasks-End : Machine → Type 0
