@@ -60,11 +60,11 @@ module _ (t : List ℕ) (st : State) (cs : List Ask) (n : ℕ) (e : length t ≡
   r : Rich p
   r = rich t st cs n e least most
 
-  unhurt : (i : ℕ) → Unhurt i p
+  pub unhurt : (i : ℕ) → Unhurt i p
   unfolding history
   unhurt i ds h = no-17 t st (cs ++ ds) (step i) n e least most (ap (λ y. answerOf real y i) (goes-both (started real t st) cs ds) ∙ h)
 
-  c-is-figure : countOpen (p .state) ≡ figuresAt real p .c
+  pub c-is-figure : countOpen (p .state) ≡ figuresAt real p .c
   c-is-figure = open-is (r .stands) ∙ sym (low r .c-figure)
 
   settling-ends : (i : ℕ) (j : Job) → taskAt (p .state) i .work ≡ Busy j (Start Settle) → Ends real p i (settleBudget (figuresAt real p .c)) (λ x. (x ≡ 3) ⊎ (x ≡ 6))

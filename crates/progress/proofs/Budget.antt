@@ -49,7 +49,7 @@ ends-as f h = record { before = h .before; within = h .within; going = h .going;
 abbrev pub Unhurt : ℕ → Point → Type 0
 Unhurt i p = (ds : List Ask) → answerOf real (goes real p ds) i ≡ 17 → ⊥
 
-unhurt-now : (i : ℕ) (p : Point) → Unhurt i p → answerOf real p i ≡ 17 → ⊥
+pub unhurt-now : (i : ℕ) (p : Point) → Unhurt i p → answerOf real p i ≡ 17 → ⊥
 unfolding goes
 unhurt-now i p u = u []
 
@@ -69,7 +69,7 @@ module _ (i : ℕ) (lt : i < 8) (j : Job) where
   abbrev pub Settled : ℕ → Type 0
   Settled x = (x ≡ 3) ⊎ (x ≡ 6)
 
-  settle-answer : (v : View) (t : Tree) (f : Phase) (a : Answer) → goalOf f ≡ Settle → Quiet v t j f (Done a) → Settled (numberOf a)
+  pub settle-answer : (v : View) (t : Tree) (f : Phase) (a : Answer) → goalOf f ≡ Settle → Quiet v t j f (Done a) → Settled (numberOf a)
   settle-answer v t f a g (stops o _ h e) = goal-differs f g h
   settle-answer v t f _ g (settled h w l e) = inl refl
   settle-answer v t f _ g (leaves h) = inr refl
@@ -108,12 +108,12 @@ module _ (i : ℕ) (lt : i < 8) (j : Job) where
 
   -- ---- an operation
 
-  serve-answer : (o : Operation) (v : View) (t : Tree) (f : Phase) (a : Answer) → goalOf f ≡ Serve o → Quiet v t j f (Done a) → EndOf o (numberOf a)
+  pub serve-answer : (o : Operation) (v : View) (t : Tree) (f : Phase) (a : Answer) → goalOf f ≡ Serve o → Quiet v t j f (Done a) → EndOf o (numberOf a)
   serve-answer o v t f a g (stops o′ _ h e) = subst (λ y. EndOf y (numberOf a)) (operation-is f o′ o h g) e
   serve-answer o v t f _ g (settled h w l e) = goal-differs f h g
   serve-answer o v t f _ g (leaves h) = goal-differs f h g
 
-  end-answer : (o : Operation) (x : ℕ) → EndOf o x → EndAnswer o x
+  pub end-answer : (o : Operation) (x : ℕ) → EndOf o x → EndAnswer o x
   end-answer LookUp x e = e
   end-answer PutIn x e = inl e
   end-answer TakeOut x e = inl e

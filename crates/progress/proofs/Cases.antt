@@ -63,7 +63,7 @@ pub data Case {p : Point} (s : Stands p) (i : ℕ) (j : Job) (f : Phase) (d : �
   settles-now : goalOf f ≡ Settle → answerOf real p i ≡ 0 → taskAt (advance real p (step i) .state) i .work ≡ Busy j (Start Settle)
       → ((s′ : Stands (advance real p (step i))) → suc (work 255 (s′ .tree)) ≤ work 255 (s .tree)) → countOpen (advance real p (step i) .state) ≡ countOpen (p .state) → Case s i j f d
 
-same-phase : (j : Job) (f f′ : Phase) → busy j f ≡ busy j f′ → f ≡ f′
+pub same-phase : (j : Job) (f f′ : Phase) → busy j f ≡ busy j f′ → f ≡ f′
 same-phase j f f′ e = let z : Busy j f ≡ Busy j f′ = ap (λ (k : Task). k .work) e in cc
 
 module _ {p : Point} (s : Stands p) (top : rank (s .tree) ≡ 255) (i : ℕ) (lt : i < 8) (j : Job) (f : Phase) (is : taskAt (p .state) i .work ≡ Busy j f) (d : ℕ) (sees : Sees (viewAt s) (s .tree) f d) where

@@ -3,6 +3,7 @@ pub mod Tally
 pub mod Settlings
 pub mod Sees
 pub mod Walks
+pub mod Changes
 pub mod Readings
 pub mod Onward
 pub mod Cases
@@ -14,3 +15,8 @@ pub mod Bounds
 pub mod Budget
 pub mod Alone
 pub mod Panel
+pub mod Drift
+pub mod Walked
+pub mod Slots
+pub mod Stale
+pub mod Tasks

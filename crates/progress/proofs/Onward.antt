@@ -1,5 +1,5 @@
 -- ONE STEP of a task that left the entry in the table as it is.
-use Prim.Native.Nat.{_+_, _<_, suc, ℕ}
+use Prim.Native.Nat.{_+_, _<_, ℕ}
 use borrow.Author.Tests.{le-ltb, lt-ltb}
 use lib.ListN.{length}
 use mathlib.Core.Bool.{Bool, true}
@@ -23,12 +23,11 @@ use Rattle.machine.specs.State.{countOpen, jobFits, one, settling, taskAt}
 use Rattle.machine.specs.Step.{Left, answered, carried, phaseStep, stepOf, stepWork, turned}
 use Rattle.machine.specs.Table.{View, puts}
 use Rattle.progress.proofs.Readings.{put-on, settle-on, take-on}
-use Rattle.progress.proofs.Sees.{Goes-On, Sees, afterWalk}
+use Rattle.progress.proofs.Sees.{Goes-On, Sees}
 use Rattle.progress.proofs.Walks.{start-on, walk-on}
 use Rattle.progress.specs.Alone.{answerOf}
 use Rattle.steps.specs.Trail.{WorkOk}
 use Rattle.terms.specs.Task.{busy, goalOf, goalSettles, idleTask, workSettles}
-use Rattle.terms.specs.declared.Goal.{Goal}
 use Rattle.terms.specs.declared.Job.{Job}
 use Rattle.terms.specs.declared.Phase.{Phase}
 use Rattle.terms.specs.declared.Phase.the-variants.{PuttingIn, Settling, Start, TakingOut, Walk}
@@ -39,7 +38,7 @@ use Rattle.terms.specs.declared.Turn.the-variants.{Done, Hurt, Next}
 use Rattle.terms.specs.declared.Work.the-variants.{Busy}
 use Rattle.trees.proofs.Held.{Carries}
 use Rattle.trees.proofs.OneTree.{one-tree}
-use Rattle.trees.specs.Rank.{height, rank}
+use Rattle.trees.specs.Rank.{rank}
 use Rattle.trees.specs.Tree.{Tree}
 
 pub phase-on : (n : ℕ) (v : View) (t : Tree) → Carries v t → Shape t → Bounded n v → rank t ≡ 255 → (m : ℕ) (j : Job) → j .number < 1000000 → (f : Phase) (d : ℕ) → Sees v t f d
@@ -50,10 +49,6 @@ phase-on n v t i sh b top m j lt (Walk g q) d s = λ z. walk-on n v t i sh b top
 phase-on n v t i sh b top m j lt (PuttingIn q x) d s = put-on n v t i sh b j m q x d s
 phase-on n v t i sh b top m j lt (TakingOut q x) d s = take-on n v t i sh b j q x d s
 phase-on n v t i sh b top m j lt (Settling q x) d s = settle-on n v t i sh b j q x d s
-
--- a task begun or restarted sees the table as it is
-pub start-sees : (v : View) (t : Tree) (g : Goal) → Sees v t (Start g) (suc (height t) + afterWalk g)
-start-sees v t g = refl
 
 fits-job : (j : Job) → j .number < 1000000 → j .price < 100000 → jobFits j ≡ true
 unfolding jobFits numberFits priceFits

@@ -3,7 +3,6 @@ use Prim.Native.Nat.{_≤_, suc, ℕ}
 use borrow.Author.Tests.{eq-eqb, not-false, not-true}
 use lib.Dec.{eqb}
 use mathlib.Core.Bool.{Bool, _&&_, false, not, true}
-use mathlib.Core.List.{List, [], _∷_}
 use mathlib.Core.Path.{_∙_, _≡_, refl, sym}
 use native.Mathlib.Omega.{arith}
 use Rattle.commits.proofs.Shape.{Shape}
@@ -11,30 +10,23 @@ use Rattle.fares.proofs.Whole.{Bounded}
 use Rattle.machine.proofs.Choice.{if-elim}
 use Rattle.machine.proofs.Tests.{both-first}
 use Rattle.machine.specs.Commit.{Did, calm, commitIf, reading}
-use Rattle.machine.specs.PutIn.{putCommit, putDone, putLimit, putRoom, putStep, putTest, putTurn, putWrites, readPutLeaf, readPutParent}
+use Rattle.machine.specs.PutIn.{putCommit, putStep, putTest, readPutLeaf, readPutParent}
 use Rattle.machine.specs.Record.{inTree, leads, linked, linksOf, still}
-use Rattle.machine.specs.Rows.{aroundOf, doubleWrites, rotateWrites}
-use Rattle.machine.specs.Settling.{chooseBy, chooseStep, commitFour, commitThree, commitTwo, doubleBy, doubleDo, doubleFirst, doubleStep, doubleTurn, promoteBy, promoteDo, readGrand, readOn, readParent, rotateBy, rotateDo, rotateFirst, rotateOn, rotateStep, rotateTurn, rotateTwoDo, settleStep, testFour, testThree, testTwo, turnFormed}
-use Rattle.machine.specs.Table.{View, Write, slot1, slot2, slot3}
-use Rattle.machine.specs.TakeOut.{readTakeGrand, readTakeLeft, readTakeParent, readTakeRight, takeCommit, takeRoom, takeStep, takeTest}
+use Rattle.machine.specs.Rows.{aroundOf}
+use Rattle.machine.specs.Settling.{chooseBy, chooseStep, commitFour, commitThree, commitTwo, doubleFirst, doubleStep, doubleTurn, readGrand, readOn, readParent, rotateFirst, rotateOn, rotateStep, rotateTurn, settleStep, testFour, testThree, testTwo, turnFormed}
+use Rattle.machine.specs.Table.{View}
+use Rattle.machine.specs.TakeOut.{readTakeGrand, readTakeLeft, readTakeParent, readTakeRight, takeCommit, takeStep, takeTest}
+use Rattle.progress.proofs.Changes.{NoNext, Stops, double-stops, promote-stops, put-stops, rotate-stops, take-stops}
 use Rattle.progress.proofs.Sees.{Goes-On, Onward, Over, Sees, Three, Two}
 use Rattle.progress.specs.Restarts.{isStart}
 use Rattle.steps.proofs.Facts.{formed-plain, inner-by, leads-to, linked-formed, side-link}
 use Rattle.steps.specs.Does.{walks}
 use Rattle.terms.specs.Task.{busy, noted}
-use Rattle.terms.specs.declared.Answer.{Answer}
-use Rattle.terms.specs.declared.Answer.the-variants.{Limit, NoRoom, PutUnsettled}
-use Rattle.terms.specs.declared.Around.{Around}
-use Rattle.terms.specs.declared.Goal.the-variants.{Settle}
 use Rattle.terms.specs.declared.Job.{Job}
-use Rattle.terms.specs.declared.LevelRow.{LevelRow}
-use Rattle.terms.specs.declared.LevelRow.the-variants.{DoubleRotation, NoRow, RotateOne, RotateTwo}
 use Rattle.terms.specs.declared.Links.{Links}
-use Rattle.terms.specs.declared.ParentRow.{ParentRow}
-use Rattle.terms.specs.declared.ParentRow.the-variants.{Outranked, Promote, Wider}
 use Rattle.terms.specs.declared.Path.{Path}
 use Rattle.terms.specs.declared.Phase.{Phase}
-use Rattle.terms.specs.declared.Phase.the-variants.{PuttingIn, Settling, Start, TakingOut}
+use Rattle.terms.specs.declared.Phase.the-variants.{PuttingIn, Settling, TakingOut}
 use Rattle.terms.specs.declared.PutStage.{PutStage}
 use Rattle.terms.specs.declared.PutStage.the-variants.{PutCommit, PutLeaf, PutParent}
 use Rattle.terms.specs.declared.Rec.{Rec}
@@ -65,9 +57,6 @@ all-of false b e f = e
 over-is : (v : View) (a s : ℕ) → Over v a s → (inTree (v a) && leads (linksOf (v a)) s) ≡ true
 over-is v a s o = all-of _ _ (in-tree-is (v a) (o .0)) (o .1)
 
-some-writes : {w : Write} {ws : List Write} → (w ∷ ws) ≡ [] → ⊥
-some-writes e = let z : _≡_ {A = ℕ} 0 1 = cc in omega arith
-
 module _ (n : ℕ) (v : View) (t : Tree) (i : Carries v t) (sh : Shape t) (b : Bounded n v) (j : Job) where
   -- ---- a reading, and a commit after its test
 
@@ -82,27 +71,19 @@ module _ (n : ℕ) (v : View) (t : Tree) (i : Carries v t) (sh : Shape t) (b : B
     abbrev On : Did → Type 0
     On = Goes-On v t j f D
 
-    tested : (grounds test : Bool) (change : Did) → test ≡ true → On change → On (commitIf (busy j f) grounds test change)
-    unfolding commitIf
-    tested grounds test change e h = if-elim On _ (λ a w. walked) (λ a. if-elim On _ (λ y. true-false test e (not-true test y)) (λ y. h))
-
     hurts-on : On (calm Hurt)
     hurts-on w = walked
 
-    done-on : (a : Answer) → On (calm (Done a))
-    done-on a w = tt
+    stops-on : (x : Turn) → NoNext x → Onward v t j f D x
+    stops-on Hurt h = walked
+    stops-on (Next k) h = absurd h
+    stops-on (Done a) h = tt
+
+    tested : (grounds test : Bool) (change : Did) → test ≡ true → Stops change → On (commitIf (busy j f) grounds test change)
+    unfolding commitIf
+    tested grounds test change e h = if-elim On _ (λ a w. walked) (λ a. if-elim On _ (λ y. true-false test e (not-true test y)) (λ y w. stops-on (change .turn) (h w)))
 
   -- ---- put-in
-
-  put-five : (f : Phase) (D m : ℕ) (q : Path) (e : Bool) (x : Turn) (h : Rec) → Goes-On v t j f D (putDone x (putWrites j q e h (slot1 v n) (slot2 v n) (slot3 v n)))
-  unfolding putWrites
-  put-five f D m q e x h = if-elim (λ ws. ws ≡ [] → Onward v t j f D x) _ (λ z r. absurd (some-writes r)) (λ z r. absurd (some-writes r))
-
-  put-room-on : (f : Phase) (D : ℕ) → walks f ≡ false → (m : ℕ) (q : Path) (e : Bool) (p h : Rec) → Goes-On v t j f D (putLimit v n m j q e p h)
-  unfolding putLimit putRoom
-  put-room-on f D w m q e p h =
-      if-elim (Goes-On v t j f D) _ (λ a. done-on f D w Limit)
-      (λ a. if-elim (Goes-On v t j f D) _ (λ y. done-on f D w NoRoom) (λ y. put-five f D m q e (putTurn j p h) h))
 
   pub put-on : (m : ℕ) (q : Path) (s : PutStage) (D : ℕ) → Sees v t (PuttingIn q s) D → Goes-On v t j (PuttingIn q s) D (putStep v n m j q s)
   unfolding putStep readPutParent readPutLeaf putCommit putTest
@@ -112,17 +93,13 @@ module _ (n : ℕ) (v : View) (t : Tree) (i : Carries v t) (sh : Shape t) (b : B
       λ z. reads (PuttingIn q (PutLeaf a)) (PuttingIn q (PutCommit a (linksOf (v (q .here))))) D 1 _ _ (v (q .here)) refl (in-tree-is (v (q .here)) (o .1)) refl refl (o, (s, refl), refl) (omega arith)
   put-on m q (PutCommit a c) D (o, s, e) =
       tested (PuttingIn q (PutCommit a c)) D refl _ _ _ (all-of _ _ (still-is (v (q .parent)) a (o .0 .0) (s .0)) (still-is (v (q .here)) c (o .1) (s .1)))
-      (put-room-on (PuttingIn q (PutCommit a c)) D refl m q _ _ _)
+      (put-stops n v j m q _ _ _)
 
   -- ---- take-out
 
   -- a child of a record in the tree
   child-one : (a h : ℕ) (d : Bool) → v a .state ≡ 1 → link d (v a) ≡ h → (h ≡ 0 → ⊥) → v h .state ≡ 1
   child-one a h d one e nz = below-facts n v t i sh b a h d one e nz .one
-
-  take-room-on : (f : Phase) (D : ℕ) → walks f ≡ false → (q : Path) (e : Bool) (r : Rec) (x : ℕ) → Goes-On v t j f D (takeRoom v n q e r x)
-  unfolding takeRoom
-  take-room-on f D w q e r x = if-elim (Goes-On v t j f D) _ (λ a. done-on f D w NoRoom) (λ a y. absurd (some-writes y))
 
   -- the parent of a leaf leads to two records of the tree
   parent-links : (q : Path) (d : Bool) → Two v q → (q .parent ≡ 0 → ⊥) → link d (v (q .parent)) ≡ 0 → ⊥
@@ -158,49 +135,9 @@ module _ (n : ℕ) (v : View) (t : Tree) (i : Carries v t) (sh : Shape t) (b : B
       (all-of _ _ (still-is (v (q .grand)) a (o .0 .0) (s .0))
       (all-of _ _ (still-is (v (q .parent)) c (o .1 .0 .0) (s .1))
       (all-of _ _ (still-is (v (c .left)) d (s .3) (s .2)) (still-is (v (c .right)) x (s .5) (s .4)))))
-      (take-room-on (TakingOut q (TakeCommit a c d x)) D refl q _ _ _)
+      (take-stops n v j q _ _ _)
 
   -- ---- settling
-
-  module _ (f : Phase) (D : ℕ) (walked : walks f ≡ false) where
-    abbrev G : Did → Type 0
-    G = Goes-On v t j f D
-
-    promote-do-on : (q : Path) (e : Bool) (c : Links) (z : Rec) → G (promoteDo v n j q e c z)
-    unfolding promoteDo
-    promote-do-on q e c z =
-        if-elim G _ (λ a. hurts-on f D walked)
-        (λ a. if-elim G _ (λ y. done-on f D walked PutUnsettled) (λ y r. absurd (some-writes r)))
-
-    promote-on : (row : ParentRow) (q : Path) (a c : Links) (z : Rec) → G (promoteBy row v n j q a c z)
-    unfolding promoteBy
-    promote-on Outranked q a c z = hurts-on f D walked
-    promote-on Promote q a c z = promote-do-on q _ c z
-    promote-on Wider q a c z = hurts-on f D walked
-
-    rotate-do-on : (q : Path) (o : Around) (z x : Rec) (rx rz : ℕ) → G (rotateDo v n j q o z x rx rz)
-    unfolding rotateDo rotateWrites
-    rotate-do-on q o z x rx rz = if-elim G _ (λ y. done-on f D walked PutUnsettled) (λ y e. absurd (some-writes e))
-
-    rotate-by-on : (row : LevelRow) (q : Path) (o : Around) (z x : Rec) → G (rotateBy row v n j q o z x)
-    unfolding rotateBy rotateTwoDo
-    rotate-by-on NoRow q o z x = hurts-on f D walked
-    rotate-by-on RotateOne q o z x = rotate-do-on q o z x _ _
-    rotate-by-on RotateTwo q o z x = if-elim G _ (λ a. hurts-on f D walked) (λ a. rotate-do-on q o z x _ _)
-    rotate-by-on DoubleRotation q o z x = hurts-on f D walked
-
-    double-do-on : (q : Path) (o : Around) (d : Links) (z x y : Rec) → G (doubleDo v n j q o d z x y)
-    unfolding doubleDo doubleWrites
-    double-do-on q o d z x y =
-        if-elim G _ (λ a. done-on f D walked PutUnsettled)
-        (λ a. if-elim (λ ws. ws ≡ [] → Onward v t j f D (Next (busy j (Start Settle)))) (o .side) (λ r e. absurd (some-writes e)) (λ r e. absurd (some-writes e)))
-
-    double-by-on : (row : LevelRow) (q : Path) (o : Around) (d : Links) (z x y : Rec) → G (doubleBy row v n j q o d z x y)
-    unfolding doubleBy
-    double-by-on NoRow q o d z x y = hurts-on f D walked
-    double-by-on RotateOne q o d z x y = rotate-by-on RotateOne q o z x
-    double-by-on RotateTwo q o d z x y = rotate-by-on RotateTwo q o z x
-    double-by-on DoubleRotation q o d z x y = double-do-on q o d z x y
 
   -- the links noted lead where they do
   module _ (q : Path) (o : Three v q) where
@@ -233,7 +170,7 @@ module _ (n : ℕ) (v : View) (t : Tree) (i : Carries v t) (sh : Shape t) (b : B
       if-elim (Goes-On v t j f D) _ (λ y. hurts-on f D refl)
       (λ y. if-elim (Goes-On v t j f D) _
       (λ w z. reads f (Settling q (SettleRotate a c (linksOf (v (q .here))))) D 2 _ _ (v (q .here)) refl (in-tree-is (v (q .here)) (o .1 .1)) refl refl (o, (s .0, s .1, refl), refl) (omega arith))
-      (λ w. tested f D refl _ _ _ (test-two q o a c (s .0) (s .1)) (promote-on f D refl _ q a c _)))
+      (λ w. tested f D refl _ _ _ (test-two q o a c (s .0) (s .1)) (promote-stops n v j _ q a c _)))
   settle-on q (SettleRotate a c d) D (o, s, e) =
       let f = Settling q (SettleRotate a c d) in
       if-elim (Goes-On v t j f D) _ (λ y. hurts-on f D refl)
@@ -245,13 +182,13 @@ module _ (n : ℕ) (v : View) (t : Tree) (i : Carries v t) (sh : Shape t) (b : B
       reads f (Settling q (SettleDouble a c d (linksOf (v (aroundOf q a c d .y))))) D 1 _ _ (v (aroundOf q a c d .y)) refl (in-tree-is (v (aroundOf q a c d .y)) one) refl refl
       (o, (s .0, s .1, s .2, refl, one), refl) (omega arith)
       ))
-      (λ r. tested f D refl _ _ _ (test-three q o a c d (s .0) (s .1) (s .2)) (rotate-by-on f D refl _ q _ _ _))))
-      (λ w. tested f D refl _ _ _ (test-three q o a c d (s .0) (s .1) (s .2)) (promote-on f D refl _ q a c _)))
+      (λ r. tested f D refl _ _ _ (test-three q o a c d (s .0) (s .1) (s .2)) (rotate-stops n v j _ q _ _ _))))
+      (λ w. tested f D refl _ _ _ (test-three q o a c d (s .0) (s .1) (s .2)) (promote-stops n v j _ q a c _)))
   settle-on q (SettleDouble a c d x) D (o, s, e) =
       let f = Settling q (SettleDouble a c d x) in
       let test = all-of _ _ (test-three q o a c d (s .0) (s .1) (s .2)) (still-is (v (aroundOf q a c d .y)) x (s .4) (s .3)) in
       if-elim (Goes-On v t j f D) _ (λ y. hurts-on f D refl)
       (λ y. if-elim (Goes-On v t j f D) _
       (λ w. if-elim (Goes-On v t j f D) _ (λ u. hurts-on f D refl)
-      (λ u. tested f D refl _ _ _ test (double-by-on f D refl _ q _ x _ _ _)))
-      (λ w. tested f D refl _ _ _ test (promote-on f D refl _ q a c _)))
+      (λ u. tested f D refl _ _ _ test (double-stops n v j _ q _ x _ _ _)))
+      (λ w. tested f D refl _ _ _ test (promote-stops n v j _ q a c _)))

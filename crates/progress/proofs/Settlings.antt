@@ -32,14 +32,14 @@ module _ (t : List ℕ) (st : State) (cs ds : List Ask) (n : ℕ) (e : length t 
   abbrev from : Point
   from = history real t st cs
 
-  few-since : tallyFrom real from noTally ds .settlings ≤ 28 * (cAt from + tallyFrom real from noTally ds .settled-puts)
+  few-since : tallyFrom real from noTally ds .settlings ≤ 28 * (cAt from + tallyFrom real from noTally ds .settling-puts)
   few-since =
       let r = rich t st cs n e least most in
       let s = r .stands in
       let f = settled-from s (work 255 (s .tree)) noTally (omega arith) ds in
       omega (arith, f .1, work-28 255 (s .tree) (omega arith) (s .shape .marks), levels-few r)
 
-few-ever : (t : List ℕ) (st : State) (cs : List Ask) (n : ℕ) → length t ≡ 6 * n → 8 ≤ n → n ≤ 4096 → tallyOf real t st cs .settlings ≤ 28 * tallyOf real t st cs .settled-puts
+few-ever : (t : List ℕ) (st : State) (cs : List Ask) (n : ℕ) → length t ≡ 6 * n → 8 ≤ n → n ≤ 4096 → tallyOf real t st cs .settlings ≤ 28 * tallyOf real t st cs .settling-puts
 unfolding history goes started stillOpen
 few-ever t st cs n e least most = omega (arith, few-since t st [] cs n e least most)
 

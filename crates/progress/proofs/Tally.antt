@@ -46,9 +46,6 @@ add-28 : (b : Bool) → addsTo b ≡ 28 * one b
 add-28 true = omega arith
 add-28 false = omega arith
 
-first-no : (b : Bool) → one (false && b) ≡ 0
-first-no b = refl
-
 one-le : (b : Bool) → one b ≤ 1
 one-le true = omega arith
 one-le false = omega arith
@@ -76,7 +73,7 @@ put-settles j false k = refl
 
 -- the tally against the work, from a point where B was left
 abbrev pub Fair : ℕ → Tally → Tree → Type 0
-Fair B n t = n .settlings + work 255 t ≤ B + 28 * n .settled-puts
+Fair B n t = n .settlings + work 255 t ≤ B + 28 * n .settling-puts
 
 module _ {p : Point} (s : Stands p) where
   step-counts : {j : Job} {f : Phase} {d : Did} (does : Does (viewAt s) (s .tree) (p .state .m) j f d)
@@ -94,11 +91,11 @@ module _ {p : Point} (s : Stands p) where
   step-counts {j} {f} (take-commits ws g ch) = rw g (omega (arith, take-work (ch .act) (s .shape)))
   step-counts {j} {f} (settle-commits ws g ch) = rw g (omega (arith, settle-work (ch .act) (s .shape), one-le (differs (p .table) (puts (p .table) ws))))
 
-  kept-fair : (B : ℕ) (n : Tally) → Fair B n (s .tree) → (st′ : State) (a b : Bool) (i : ℕ) → a ≡ false → settlesAt st′ i ≡ settlesAt (p .state) i
-      → Fair B (record { settlings = n .settlings + one (settlesAt (p .state) i && a); settled-puts = n .settled-puts + one (not (settlesAt (p .state) i) && settlesAt st′ i) }) (s .tree)
-  kept-fair B n h st′ a b i e g = rw (e, g) (none (settlesAt (p .state) i))
+  kept-fair : (B : ℕ) (n : Tally) → Fair B n (s .tree) → (st′ : State) (a : Bool) (i : ℕ) → a ≡ false → settlesAt st′ i ≡ settlesAt (p .state) i
+      → Fair B (record { settlings = n .settlings + one (settlesAt (p .state) i && a); settling-puts = n .settling-puts + one (not (settlesAt (p .state) i) && settlesAt st′ i) }) (s .tree)
+  kept-fair B n h st′ a i e g = rw (e, g) (none (settlesAt (p .state) i))
     where
-      none : (c : Bool) → Fair B (record { settlings = n .settlings + one (c && false); settled-puts = n .settled-puts + one (not c && c) }) (s .tree)
+      none : (c : Bool) → Fair B (record { settlings = n .settlings + one (c && false); settling-puts = n .settling-puts + one (not c && c) }) (s .tree)
       none true = omega arith
       none false = omega arith
 
@@ -107,7 +104,7 @@ module _ {p : Point} (s : Stands p) where
   unfolding tallied ifB
   refused-fair B n h reset x g = rw (ne-eqb (numberOf x) 0 (λ e. omega arith)) h
   refused-fair B n h (begin i o j) x g = h
-  refused-fair B n h (step i) x g = kept-fair B n h (p .state) _ true i (same-table (p .table)) refl
+  refused-fair B n h (step i) x g = kept-fair B n h (p .state) _ i (same-table (p .table)) refl
   refused-fair B n h (abandon i) x g = h
   refused-fair B n h tidy x g = h
   refused-fair B n h figures x g = h

@@ -211,7 +211,7 @@ take-work act f = omega (arith, act-work act f, ap addsTo (take-level act))
 pub put-work : {v w : View} {k p : ℕ} {t t′ : Tree} (act : Act v (puts-in k p) t w t′) → Shape t → work 255 t′ ≤ work 255 t + addsTo (levelPut act)
 put-work act f = omega (arith, act-work act f)
 
--- ---- 1 to 28 for each level record
+-- ---- at most 28 for each level record
 
 weight-28 : (q r : ℕ) → 1 ≤ q → weight q r ≤ 28 * lvs q r 1
 weight-28 q r h = go (lv q r) refl
@@ -225,19 +225,3 @@ work-28 q (leaf s k pr rk) h m = weight-28 q rk h
 work-28 q (node s k rk l r) h m =
     let one : 1 ≤ rk = elim (m .0) [ inl e ↦ omega (arith, e .1) | inr e ↦ omega (arith, e .1) ] in
     omega (arith, weight-28 q rk h, work-28 rk l one (m .1), work-28 rk r one (m .2))
-
-weight-1 : (q r : ℕ) → (r ≤ 28) ⊎ (r ≡ 255) → lvs q r 1 ≤ weight q r
-weight-1 q r m = go (lv q r) refl
-  where
-    go : (b : Bool) → lv q r ≡ b → lvs q r 1 ≤ weight q r
-    go true e =
-        elim m [
-          | inl h ↦ omega (arith, weight-yes q r e, lvs-le q r 1)
-          | inr h ↦ absurd (lv-not-255 q (rw (← h) e))
-        ]
-    go false e = omega (arith, lvs-not q r 1 (λ y. let z : _≡_ {A = ℕ} 0 1 = cc in omega arith))
-
-pub work-1 : (q : ℕ) (t : Tree) → Marked t → lev q t ≤ work q t
-work-1 q (leaf s k pr rk) m = weight-1 q rk (elim m [ inl e ↦ inr (e .2) | inr e ↦ inl (omega (arith, e .2)) ])
-work-1 q (node s k rk l r) m =
-    omega (arith, weight-1 q rk (elim (m .0) [ inl e ↦ inr (e .1) | inr e ↦ inl (e .2) ]), work-1 rk l (m .1), work-1 rk r (m .2))

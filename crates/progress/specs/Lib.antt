@@ -4,3 +4,4 @@ pub mod Alone
 pub mod Restarts
 pub mod Budget
 pub mod Panel
+pub mod Stale

@@ -30,10 +30,10 @@ settlesAt st i = workSettles (taskAt st i .work)
 -- since the reset: settling commits, and put-ins that left their task settling
 pub record Tally : Type 0 where
   pub settlings : ℕ
-  pub settled-puts : ℕ
+  pub settling-puts : ℕ
 
 abbrev pub noTally : Tally
-noTally = record { settlings = 0; settled-puts = 0 }
+noTally = record { settlings = 0; settling-puts = 0 }
 
 -- a step of a task that settles changes the table only by a settling commit; a put-in that goes on to settle leaves its task settling
 unfoldable pub tallied : Tally → Point → Ask → Left → Tally
@@ -42,7 +42,7 @@ tallied n p (begin i o j) l = n
 tallied n p (step i) l =
     record {
       settlings = n .settlings + one (settlesAt (p .state) i && differs (p .table) (l .table));
-      settled-puts = n .settled-puts + one (not (settlesAt (p .state) i) && settlesAt (l .state) i);
+      settling-puts = n .settling-puts + one (not (settlesAt (p .state) i) && settlesAt (l .state) i);
     }
 tallied n p (abandon i) l = n
 tallied n p tidy l = n
@@ -60,6 +60,6 @@ tallyOf M t st cs = tallyFrom M (started M t st) noTally cs
 -- AT MOST 28 settling commits for each put-in that settled, on every history; and from any point on, whatever calls follow, at most 28 for each put-in that had not
 -- ended as settled there, which are c, and for each put-in that settles in these calls
 pub record Few-Settlings (M : Machine) : Type 0 where
-  pub ever : (t : List ℕ) (st : State) (cs : List Ask) (n : ℕ) → length t ≡ 6 * n → 8 ≤ n → n ≤ 4096 → tallyOf M t st cs .settlings ≤ 28 * tallyOf M t st cs .settled-puts
+  pub ever : (t : List ℕ) (st : State) (cs : List Ask) (n : ℕ) → length t ≡ 6 * n → 8 ≤ n → n ≤ 4096 → tallyOf M t st cs .settlings ≤ 28 * tallyOf M t st cs .settling-puts
   pub since : (t : List ℕ) (st : State) (cs ds : List Ask) (n : ℕ) → length t ≡ 6 * n → 8 ≤ n → n ≤ 4096
-      → tallyFrom M (history M t st cs) noTally ds .settlings ≤ 28 * (cAt (history M t st cs) + tallyFrom M (history M t st cs) noTally ds .settled-puts)
+      → tallyFrom M (history M t st cs) noTally ds .settlings ≤ 28 * (cAt (history M t st cs) + tallyFrom M (history M t st cs) noTally ds .settling-puts)
