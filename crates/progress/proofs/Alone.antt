@@ -1,8 +1,7 @@
 -- EVERY OPERATION STEPPED ALONE ends within its budget, on every history.
-use Prim.Native.Nat.{_*_, _+_, _<_, _≤_, suc, ℕ}
+use Prim.Native.Nat.{_*_, _≤_, ℕ}
 use lib.ListN.{length}
 use mathlib.Core.List.{List, [], _++_, _∷_}
-use mathlib.Core.Logic.{_⊎_}
 use mathlib.Core.Path.{_∙_, _≡_, ap, refl, sym}
 use native.Mathlib.Omega.{arith}
 use Rattle.demand2.proofs.Counts.{settling-stored}
@@ -19,20 +18,18 @@ use Rattle.machine.specs.Calls.{beginOf}
 use Rattle.machine.specs.State.{countOpen, taskAt}
 use Rattle.machine.specs.Step.{Left}
 use Rattle.progress.proofs.Bounds.{open-is}
-use Rattle.progress.proofs.Budget.{Unhurt, beyondCommit, serve-run, settle-alone, unhurt-on}
-use Rattle.progress.proofs.Ends.{ends-wider}
+use Rattle.progress.proofs.Budget.{Unhurt, unhurt-on}
+use Rattle.progress.proofs.Entry.{restart-ends}
 use Rattle.progress.proofs.Look.{begun-facts, height-of}
 use Rattle.progress.proofs.Onward.{same-sight}
-use Rattle.progress.proofs.Restarts.{busy-below}
-use Rattle.progress.proofs.Sees.{afterWalk}
 use Rattle.progress.specs.Alone.{Ends, answerOf}
-use Rattle.progress.specs.Budget.{EndAnswer, Tasks-End, budget, settleBudget}
+use Rattle.progress.specs.Budget.{EndAnswer, GoalAnswer, Tasks-End, budget, goalBudget}
 use Rattle.terms.specs.Task.{busy}
 use Rattle.terms.specs.declared.Answer.the-variants.{Accepted}
-use Rattle.terms.specs.declared.Goal.the-variants.{Serve, Settle}
+use Rattle.terms.specs.declared.Goal.{Goal}
+use Rattle.terms.specs.declared.Goal.the-variants.{Serve}
 use Rattle.terms.specs.declared.Job.{Job}
 use Rattle.terms.specs.declared.Operation.{Operation}
-use Rattle.terms.specs.declared.Operation.the-variants.{LookUp, PutIn, TakeOut}
 use Rattle.terms.specs.declared.Phase.the-variants.{Start}
 use Rattle.terms.specs.declared.State.{State}
 use Rattle.terms.specs.declared.Work.the-variants.{Busy}
@@ -67,25 +64,8 @@ module _ (t : List ℕ) (st : State) (cs : List Ask) (n : ℕ) (e : length t ≡
   pub c-is-figure : countOpen (p .state) ≡ figuresAt real p .c
   c-is-figure = open-is (r .stands) ∙ sym (low r .c-figure)
 
-  settling-ends : (i : ℕ) (j : Job) → taskAt (p .state) i .work ≡ Busy j (Start Settle) → Ends real p i (settleBudget (figuresAt real p .c)) (λ x. (x ≡ 3) ⊎ (x ≡ 6))
-  settling-ends i j is = settle-alone i (busy-below (r .stands) i j (Start Settle) is) j (figuresAt real p .c) p r (unhurt i) (omega (arith, c-is-figure)) is
-
-  budget-is : (o : Operation) (i : ℕ) (lt : i < 8) (j : Job) (h c : ℕ) → ((h + 2) + afterWalk (Serve o)) + beyondCommit i lt j o c ≡ budget o h c
-  unfolding budget
-  budget-is LookUp i lt j h c = omega arith
-  budget-is PutIn i lt j h c = omega arith
-  budget-is TakeOut i lt j h c = omega arith
-
-  -- where c was at most that much
-  walk-ends : (c : ℕ) (q : Point) (r : Rich q) (i : ℕ) → Unhurt i q → countOpen (q .state) ≤ c → (o : Operation) (j : Job) → taskAt (q .state) i .work ≡ Busy j (Start (Serve o))
-      → (h : ℕ) → height (r .stands .tree) ≤ h + 1 → Ends real q i (budget o h c) (EndAnswer o)
-  walk-ends c q r i u le o j is h tall =
-      let lt = busy-below (r .stands) i j (Start (Serve o)) is in
-      ends-wider (serve-run i lt j o c ((h + 2) + afterWalk (Serve o)) q r u le (Start (Serve o)) is refl (suc (height (r .stands .tree)) + afterWalk (Serve o)) refl (omega arith))
-      (omega (arith, budget-is o i lt j h c))
-
-  entry-ends : (i : ℕ) (o : Operation) (j : Job) → taskAt (p .state) i .work ≡ Busy j (Start (Serve o)) → Ends real p i (budget o (figuresAt real p .height) (figuresAt real p .c)) (EndAnswer o)
-  entry-ends i o j is = walk-ends (figuresAt real p .c) p r i (unhurt i) (omega (arith, c-is-figure)) o j is (figuresAt real p .height) (height-of r)
+  entry-ends : (i : ℕ) (j : Job) (g : Goal) → taskAt (p .state) i .work ≡ Busy j (Start g) → Ends real p i (goalBudget g (figuresAt real p .height) (figuresAt real p .c)) (GoalAnswer g)
+  entry-ends i j g is = restart-ends i j (figuresAt real p .c) (figuresAt real p .height) p r (unhurt i) (omega (arith, c-is-figure)) (height-of r) g is
 
   begin-ends : (i : ℕ) (o : Operation) (j : Job) → beginOf (p .table) (p .state) i o j .answer ≡ Accepted
       → Ends real (advance real p (begin i o j)) i (budget o (figuresAt real p .height) (figuresAt real p .c)) (EndAnswer o)
@@ -96,9 +76,9 @@ module _ (t : List ℕ) (st : State) (cs : List Ask) (n : ℕ) (e : length t ≡
       let f = begun-facts s i o j (passing s (begin i o j) .passes) (ap numberOf accepted) in
       let r′ = rich-on r (begin i o j) in
       let h : height (r′ .stands .tree) ≡ height (s .tree) = ap height (same-sight s (r′ .stands) (f .1) .0) in
-      walk-ends c _ r′ i (unhurt-on i p (unhurt i) (begin i o j)) (omega (arith, begun-open s i o j (passing s (begin i o j) .passes) (ap numberOf accepted), c-is-figure))
-      o j (f .2) (figuresAt real p .height) (omega (arith, h, height-of r))
+      restart-ends i j c (figuresAt real p .height) _ r′ (unhurt-on i p (unhurt i) (begin i o j))
+      (omega (arith, begun-open s i o j (passing s (begin i o j) .passes) (ap numberOf accepted), c-is-figure)) (omega (arith, h, height-of r)) (Serve o) (f .2)
 
 -- THE THEOREM
 pub tasks-end : Tasks-End real
-tasks-end = record { from-begin = begin-ends; from-entry = entry-ends; settling-from-entry = settling-ends }
+tasks-end = record { from-begin = begin-ends; from-entry = entry-ends }

@@ -13,6 +13,7 @@ pub mod Restarts
 pub mod Rounds
 pub mod Bounds
 pub mod Budget
+pub mod Entry
 pub mod Alone
 pub mod Panel
 pub mod Drift

@@ -19,16 +19,15 @@ use Rattle.machine.specs.Commit.{Did, calm}
 use Rattle.machine.specs.State.{countOpen, one, taskAt}
 use Rattle.machine.specs.Step.{answered, phaseStep}
 use Rattle.machine.specs.Table.{View, puts}
-use Rattle.progress.proofs.Budget.{Unhurt, beyondCommit, end-answer, ends-as, serve-answer, serve-run, settle-alone, settle-answer, unhurt-now, unhurt-on}
+use Rattle.progress.proofs.Budget.{Unhurt, end-answer, ends-as, serve-answer, settle-alone, settle-answer, unhurt-now, unhurt-on}
 use Rattle.progress.proofs.Cases.{same-phase}
 use Rattle.progress.proofs.Drift.{Drift, Drifts, Stale, phase-drifts}
 use Rattle.progress.proofs.Ends.{ends-later, ends-now, ends-wider}
+use Rattle.progress.proofs.Entry.{restart-ends}
 use Rattle.progress.proofs.Onward.{next-answer, next-open, next-table, next-task, puts-none, same-sight, task-ok}
-use Rattle.progress.proofs.Sees.{afterWalk}
 use Rattle.progress.specs.Alone.{Ends, answerOf}
-use Rattle.progress.specs.Budget.{EndAnswer, settleBudget}
+use Rattle.progress.specs.Budget.{EndAnswer, GoalAnswer, budget, goalBudget}
 use Rattle.progress.specs.Restarts.{isStart}
-use Rattle.progress.specs.Stale.{GoalAnswer}
 use Rattle.steps.proofs.Steps.{step-does}
 use Rattle.steps.specs.Does.{Does, Quiet, moves-on, put-commits, rests, settle-commits, take-commits, turnOfPut}
 use Rattle.terms.specs.Task.{busy, goalOf, goalSettles, workSettles}
@@ -49,23 +48,12 @@ use Rattle.terms.specs.declared.Turn.the-variants.{Done, Hurt, Next}
 use Rattle.terms.specs.declared.Work.the-variants.{Busy}
 use Rattle.trees.specs.Rank.{height}
 
-module _ (i : ℕ) (lt : i < 8) (j : Job) (c H : ℕ) where
-  -- from the entry
-  abbrev pub again : Goal → ℕ
-  again (Serve o) = ((suc H) + afterWalk (Serve o)) + beyondCommit i lt j o c
-  again Settle = settleBudget c
-
-  pub restart-ends : (p : Point) (r : Rich p) → Unhurt i p → countOpen (p .state) ≤ c → height (r .stands .tree) ≤ H → (g : Goal) → taskAt (p .state) i .work ≡ Busy j (Start g)
-      → Ends real p i (again g) (GoalAnswer g)
-  restart-ends p r u le low (Serve o) is =
-      serve-run i lt j o c ((suc H) + afterWalk (Serve o)) p r u le (Start (Serve o)) is refl (suc (height (r .stands .tree)) + afterWalk (Serve o)) refl (omega arith)
-  restart-ends p r u le low Settle is = settle-alone i lt j c p r u le is
-
+module _ (i : ℕ) (lt : i < 8) (j : Job) (c h : ℕ) where
   abbrev pub DriftRun : ℕ → Type 0
-  DriftRun F = (p : Point) (r : Rich p) → Unhurt i p → countOpen (p .state) ≤ c → height (r .stands .tree) ≤ H → (f : Phase) (g : Goal) → goalOf f ≡ g → taskAt (p .state) i .work ≡ Busy j f
-      → (d : ℕ) → Stale (viewAt (r .stands)) (j .number) f d → d ≤ F → Ends real p i (F + again g) (GoalAnswer g)
+  DriftRun F = (p : Point) (r : Rich p) → Unhurt i p → countOpen (p .state) ≤ c → height (r .stands .tree) ≤ h + 1 → (f : Phase) (g : Goal) → goalOf f ≡ g → taskAt (p .state) i .work ≡ Busy j f
+      → (d : ℕ) → Stale (viewAt (r .stands)) (j .number) f d → d ≤ F → Ends real p i (F + goalBudget g h c) (GoalAnswer g)
 
-  module _ (F : ℕ) (run : DriftRun F) (p : Point) (r : Rich p) (u : Unhurt i p) (le : countOpen (p .state) ≤ c) (low : height (r .stands .tree) ≤ H) (f : Phase) (g : Goal) (eg : goalOf f ≡ g)
+  module _ (F : ℕ) (run : DriftRun F) (p : Point) (r : Rich p) (u : Unhurt i p) (le : countOpen (p .state) ≤ c) (low : height (r .stands .tree) ≤ h + 1) (f : Phase) (g : Goal) (eg : goalOf f ≡ g)
       (is : taskAt (p .state) i .work ≡ Busy j f) where
     abbrev s : Stands p
     s = r .stands
@@ -100,17 +88,17 @@ module _ (i : ℕ) (lt : i < 8) (j : Job) (c H : ℕ) where
     table-same e = next-table s i lt j f is ∙ ap (puts (p .table)) e ∙ puts-none (p .table)
 
     goes-further : (k : Task) → did ≡ calm (Next k) → (f′ : Phase) (d′ : ℕ) → k ≡ busy j f′ → goalOf f′ ≡ goalOf f → ((isStart f′ ≡ true) ⊎ (Stale v (j .number) f′ d′ × (suc d′ ≤ suc F)))
-        → Ends real p i (suc F + again g) (GoalAnswer g)
+        → Ends real p i (suc F + goalBudget g h c) (GoalAnswer g)
     goes-further k e f′ d′ ek eg′ next =
         let turn = ap (λ (x : Did). x .turn) e in
         let same = table-same (ap (λ (x : Did). x .writes) e) in
         let sight = same-sight s (r′ .stands) same in
         let is′ : taskAt (advance real p (step i) .state) i .work ≡ Busy j f′ = task-is (Next k) turn ∙ ap (λ (x : Task). x .work) ek in
-        let low′ : height (r′ .stands .tree) ≤ H = rw (sight .0) low in
+        let low′ : height (r′ .stands .tree) ≤ h + 1 = rw (sight .0) low in
         let open′ = open-same k turn f′ ek eg′ in
         let z = answer-is (Next k) turn in
         elim next [
-          | inl st ↦ ends-wider (ends-later z (restart-ends _ r′ (unhurt-on i p u (step i)) open′ low′ g (is′ ∙ ap (Busy j) (start-of f′ g (eg′ ∙ eg) st)))) (omega arith)
+          | inl st ↦ ends-wider (ends-later z (restart-ends i j c h _ r′ (unhurt-on i p u (step i)) open′ low′ g (is′ ∙ ap (Busy j) (start-of f′ g (eg′ ∙ eg) st)))) (omega arith)
           | inr st ↦ ends-wider (ends-later z (run _ r′ (unhurt-on i p u (step i)) open′ low′ f′ g (eg′ ∙ eg) is′ d′ (rw (sight .1) (st .0)) (omega (arith, st .1)))) (omega arith)
         ]
       where
@@ -121,7 +109,7 @@ module _ (i : ℕ) (lt : i < 8) (j : Job) (c H : ℕ) where
         start-of (TakingOut q x) g e st = absurd (let z : _≡_ {A = ℕ} 0 1 = cc in omega arith)
         start-of (Settling q x) g e st = absurd (let z : _≡_ {A = ℕ} 0 1 = cc in omega arith)
 
-    by-turn : (a : Turn) → did ≡ calm a → Quiet v (s .tree) j f a → Drift v j (suc F) a → Ends real p i (suc F + again g) (GoalAnswer g)
+    by-turn : (a : Turn) → did ≡ calm a → Quiet v (s .tree) j f a → Drift v j (suc F) a → Ends real p i (suc F + goalBudget g h c) (GoalAnswer g)
     by-turn Hurt e q h = absurd (unhurt-now i p u (answer-is Hurt (ap (λ (x : Did). x .turn) e)))
     by-turn (Done a) e q h = ends-now (rw (answer-is (Done a) (ap (λ (x : Did). x .turn) e)) (quiet-answer g eg a q)) (omega arith)
     by-turn (Next k) e q (f′, d′, ek, next) = goes-further k e f′ d′ ek (goal q ek) next
@@ -129,8 +117,8 @@ module _ (i : ℕ) (lt : i < 8) (j : Job) (c H : ℕ) where
         goal : {k : Task} → Quiet v (s .tree) j f (Next k) → k ≡ busy j f′ → goalOf f′ ≡ goalOf f
         goal (moves-on f″ x ok mv) ek = ap goalOf (sym (same-phase j f″ f′ ek)) ∙ x
 
-    after-put : goalOf f ≡ Serve PutIn → (b : Bool) → did .turn ≡ turnOfPut j b → Ends real p i (suc F + again g) (GoalAnswer g)
-    unfolding ifB
+    after-put : goalOf f ≡ Serve PutIn → (b : Bool) → did .turn ≡ turnOfPut j b → Ends real p i (suc F + goalBudget g h c) (GoalAnswer g)
+    unfolding ifB budget
     after-put e true turn =
         let o = next-open s i lt j f is (busy j (Start Settle)) turn in
         let a : one (goalSettles (goalOf f)) ≡ 0 = ap (λ y. one (goalSettles y)) e in
@@ -138,7 +126,7 @@ module _ (i : ℕ) (lt : i < 8) (j : Job) (c H : ℕ) where
         rw (sym eg ∙ e) (ends-wider (ends-later (answer-is _ turn) (ends-as {E′ = EndAnswer PutIn} (λ x s. inr s) x)) (omega arith))
     after-put e false turn = rw (sym eg ∙ e) (ends-now (inr (inl (answer-is _ turn))) (omega arith))
 
-    by-does : (x : Did) → did ≡ x → Does v (s .tree) (p .state .m) j f x → Drifts v j (suc F) x → Ends real p i (suc F + again g) (GoalAnswer g)
+    by-does : (x : Did) → did ≡ x → Does v (s .tree) (p .state .m) j f x → Drifts v j (suc F) x → Ends real p i (suc F + goalBudget g h c) (GoalAnswer g)
     by-does _ e (rests a q) h = by-turn a e q (h refl)
     by-does _ e (put-commits b ws lim x ch) h = after-put x b (ap (λ (x : Did). x .turn) e)
     by-does _ e (take-commits ws x ch) h = rw (sym eg ∙ x) (ends-now (inr (answer-is (Done TakenOut) (ap (λ (x : Did). x .turn) e))) (omega arith))

@@ -19,23 +19,23 @@ use Rattle.machine.specs.Table.{View, view}
 use Rattle.progress.proofs.Alone.{c-is-figure, unhurt}
 use Rattle.progress.proofs.Drift.{Stale}
 use Rattle.progress.proofs.Ends.{ends-wider}
+use Rattle.progress.proofs.Entry.{restart-ends}
 use Rattle.progress.proofs.Look.{height-of}
 use Rattle.progress.proofs.Onward.{task-ok}
 use Rattle.progress.proofs.Restarts.{busy-below}
 use Rattle.progress.proofs.Sees.{putLeft, settleLeft, takeLeft}
 use Rattle.progress.proofs.Slots.{walk-fits}
-use Rattle.progress.proofs.Stale.{again, drift-run, restart-ends}
+use Rattle.progress.proofs.Stale.{drift-run}
 use Rattle.progress.proofs.Walked.{fine-walked}
 use Rattle.progress.specs.Alone.{Ends}
-use Rattle.progress.specs.Budget.{budget}
+use Rattle.progress.specs.Budget.{GoalAnswer, goalBudget}
 use Rattle.progress.specs.Restarts.{isStart}
-use Rattle.progress.specs.Stale.{All-Tasks-End, Any-Task-Ends, GoalAnswer, WalkLeft, goalBudget}
+use Rattle.progress.specs.Stale.{All-Tasks-End, Any-Task-Ends, WalkLeft}
 use Rattle.steps.specs.Trail.{Fine, PhaseOk}
 use Rattle.terms.specs.Task.{goalOf}
 use Rattle.terms.specs.declared.Goal.{Goal}
 use Rattle.terms.specs.declared.Goal.the-variants.{Serve, Settle}
 use Rattle.terms.specs.declared.Job.{Job}
-use Rattle.terms.specs.declared.Operation.the-variants.{LookUp, PutIn, TakeOut}
 use Rattle.terms.specs.declared.Path.{Path}
 use Rattle.terms.specs.declared.Phase.{Phase}
 use Rattle.terms.specs.declared.Phase.the-variants.{PuttingIn, Settling, Start, TakingOut, Walk}
@@ -97,25 +97,15 @@ module _ (t : List ℕ) (st : State) (cs : List Ask) (n : ℕ) (e : length t ≡
   abbrev c : ℕ
   c = figuresAt real p .c
 
-  abbrev H : ℕ
-  H = figuresAt real p .height + 1
-
   few : countOpen (p .state) ≤ c
   few = omega (arith, c-is-figure t st cs n e least most)
-
-  again-is : (g : Goal) → again i lt j c H g ≤ goalBudget g (figuresAt real p .height) c
-  unfolding budget
-  again-is (Serve LookUp) = omega arith
-  again-is (Serve PutIn) = omega arith
-  again-is (Serve TakeOut) = omega arith
-  again-is Settle = omega arith
 
   ends-by : (f : Phase) → taskAt (p .state) i .work ≡ Busy j f → (L : ℕ) → (isStart f ≡ true) ⊎ ((d : ℕ) × Stale (viewAt (r .stands)) (j .number) f d × (d ≤ L + 5))
       → Ends real p i ((L + 5) + goalBudget (goalOf f) (figuresAt real p .height) c) (GoalAnswer (goalOf f))
   ends-by f is L (inr (d, s, le)) =
-      ends-wider (drift-run i lt j c H (L + 5) p r (unhurt t st cs n e least most i) few (height-of r) f (goalOf f) refl is d s le) (omega (arith, again-is (goalOf f)))
+      ends-wider (drift-run i lt j c (figuresAt real p .height) (L + 5) p r (unhurt t st cs n e least most i) few (height-of r) f (goalOf f) refl is d s le) (omega arith)
   ends-by (Start g) is L (inl s) =
-      ends-wider (restart-ends i lt j c H p r (unhurt t st cs n e least most i) few (height-of r) g is) (omega (arith, again-is g))
+      ends-wider (restart-ends i j c (figuresAt real p .height) p r (unhurt t st cs n e least most i) few (height-of r) g is) (omega arith)
   ends-by (Walk g q) is L (inl s) = absurd (let z : _≡_ {A = ℕ} 0 1 = cc in omega arith)
   ends-by (PuttingIn q x) is L (inl s) = absurd (let z : _≡_ {A = ℕ} 0 1 = cc in omega arith)
   ends-by (TakingOut q x) is L (inl s) = absurd (let z : _≡_ {A = ℕ} 0 1 = cc in omega arith)

@@ -11,6 +11,7 @@ use Rattle.history.specs.Machine.{Machine}
 use Rattle.machine.specs.State.{taskAt}
 use Rattle.progress.specs.Alone.{Ends}
 use Rattle.terms.specs.declared.Answer.the-variants.{Accepted}
+use Rattle.terms.specs.declared.Goal.{Goal}
 use Rattle.terms.specs.declared.Goal.the-variants.{Serve, Settle}
 use Rattle.terms.specs.declared.Job.{Job}
 use Rattle.terms.specs.declared.Operation.{Operation}
@@ -36,6 +37,15 @@ budget LookUp h c = h + 2
 budget PutIn h c = (h + 5) + settleBudget (c + 1)
 budget TakeOut h c = h + 7
 
+-- a task about to walk from the entry
+abbrev pub goalBudget : Goal → ℕ → ℕ → ℕ
+goalBudget (Serve o) h c = budget o h c
+goalBudget Settle h c = settleBudget c
+
+abbrev pub GoalAnswer : Goal → ℕ → Type 0
+GoalAnswer (Serve o) x = EndAnswer o x
+GoalAnswer Settle x = (x ≡ 3) ⊎ (x ≡ 6)
+
 -- EVERY OPERATION STEPPED ALONE from its begin, at any point of any history, ends within its budget; and so does one whose task is about to walk from the entry, which is
 -- where every restart leaves it
 pub record Tasks-End (M : Machine) : Type 0 where
@@ -43,8 +53,5 @@ pub record Tasks-End (M : Machine) : Type 0 where
       → (i : ℕ) (o : Operation) (j : Job) → M .begin (history M t st cs .table) (history M t st cs .state) i o j .answer ≡ Accepted
       → Ends M (advance M (history M t st cs) (begin i o j)) i (budget o (figuresAt M (history M t st cs) .height) (figuresAt M (history M t st cs) .c)) (EndAnswer o)
   pub from-entry : (t : List ℕ) (st : State) (cs : List Ask) (n : ℕ) → length t ≡ 6 * n → 8 ≤ n → n ≤ 4096
-      → (i : ℕ) (o : Operation) (j : Job) → taskAt (history M t st cs .state) i .work ≡ Busy j (Start (Serve o))
-      → Ends M (history M t st cs) i (budget o (figuresAt M (history M t st cs) .height) (figuresAt M (history M t st cs) .c)) (EndAnswer o)
-  pub settling-from-entry : (t : List ℕ) (st : State) (cs : List Ask) (n : ℕ) → length t ≡ 6 * n → 8 ≤ n → n ≤ 4096
-      → (i : ℕ) (j : Job) → taskAt (history M t st cs .state) i .work ≡ Busy j (Start Settle)
-      → Ends M (history M t st cs) i (settleBudget (figuresAt M (history M t st cs) .c)) (λ x. (x ≡ 3) ⊎ (x ≡ 6))
+      → (i : ℕ) (j : Job) (g : Goal) → taskAt (history M t st cs .state) i .work ≡ Busy j (Start g)
+      → Ends M (history M t st cs) i (goalBudget g (figuresAt M (history M t st cs) .height) (figuresAt M (history M t st cs) .c)) (GoalAnswer g)

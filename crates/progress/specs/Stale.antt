@@ -3,7 +3,6 @@
 use Prim.Native.Nat.{_*_, _+_, _≤_, suc, zero, ℕ}
 use lib.ListN.{length}
 use mathlib.Core.List.{List}
-use mathlib.Core.Logic.{_⊎_}
 use mathlib.Core.Path.{_≡_}
 use Rattle.demand3.specs.Demand3.{figuresAt}
 use Rattle.history.specs.History.{Ask}
@@ -12,11 +11,9 @@ use Rattle.history.specs.Machine.{Machine}
 use Rattle.machine.specs.State.{taskAt}
 use Rattle.machine.specs.Table.{View, slots, view}
 use Rattle.progress.specs.Alone.{Ends}
-use Rattle.progress.specs.Budget.{EndAnswer, budget, settleBudget}
+use Rattle.progress.specs.Budget.{GoalAnswer, goalBudget}
 use Rattle.routes.specs.Route.{next}
 use Rattle.terms.specs.Task.{goalOf}
-use Rattle.terms.specs.declared.Goal.{Goal}
-use Rattle.terms.specs.declared.Goal.the-variants.{Serve, Settle}
 use Rattle.terms.specs.declared.Job.{Job}
 use Rattle.terms.specs.declared.Phase.{Phase}
 use Rattle.terms.specs.declared.Phase.the-variants.{PuttingIn, Settling, Start, TakingOut, Walk}
@@ -35,15 +32,6 @@ WalkLeft v k (Walk g q) L = Walked v k (q .here) L
 WalkLeft v k (PuttingIn q s) L = L ≡ 0
 WalkLeft v k (TakingOut q s) L = L ≡ 0
 WalkLeft v k (Settling q s) L = L ≡ 0
-
--- from the entry, with height and c as figures prints them
-abbrev pub goalBudget : Goal → ℕ → ℕ → ℕ
-goalBudget (Serve o) h c = budget o h c
-goalBudget Settle h c = settleBudget c
-
-abbrev pub GoalAnswer : Goal → ℕ → Type 0
-GoalAnswer (Serve o) x = EndAnswer o x
-GoalAnswer Settle x = (x ≡ 3) ⊎ (x ≡ 6)
 
 -- there is such a number of links, no more than the table has slots, and with it
 pub record Any-Task-Ends (M : Machine) (p : Point) (i : ℕ) (j : Job) (f : Phase) : Type 0 where
