@@ -5,7 +5,8 @@ ghost use mathlib.Core.Path.{_≡_};
 ghost use Prim.Native.Nat.{_+_, _-_, _*_, _/_, _≤_, _<_};
 ghost use lib.ListN.{length};
 ghost use Rattle.machine.specs.Contract.{Sized};
-ghost use Rattle.machine.specs.Record.{inTree, sentinel, isLeaf, wellFormed, linked, level, isFare, leads, linksOf, still, other};
+ghost use mathlib.Core.Bool.{_&&_, _||_};
+ghost use Rattle.machine.specs.Record.{fareMarks, innerMarks, isInner, entryForm, inTree, sentinel, isLeaf, wellFormed, linked, level, isFare, leads, linksOf, still, other};
 ghost use Rattle.machine.specs.Table.{view, put, fill, lead, off, lengthFits};
 ghost use Rattle.machine.specs.Walk.{sought, outranks};
 
@@ -111,22 +112,44 @@ pub fn is_leaf(r: Rec) -> bool
     (r.left == 0) & (r.right == 0)
 }
 
-// Whether a record of slot s is well formed, in a table of n slots.
+// Whether the marks of a leaf fit: a sentinel, or a fare.
+fn leaf_marked(r: Rec) -> bool
+    ensures { λ b. ⌜ b ≡ (sentinel r || fareMarks r) ⌝ }
+{
+    is_sentinel(r) | ((r.number < 1000000) & ((r.price < 100000) & (r.rank == 0)))
+}
+
+// Whether a record with links is well formed as an inner one.
+fn inner_formed(n: u32, r: Rec) -> bool
+    ensures { λ b. ⌜ b ≡ (isInner n r && (sentinel r || innerMarks r)) ⌝ }
+{
+    let guides = (r.number < 1000000) & ((r.price == 0) & ((1 <= r.rank) & (r.rank <= 28)));
+    let first = (1 <= r.left) & (r.left < n);
+    let second = (1 <= r.right) & (r.right < n);
+    (first & (second & (r.left != r.right))) & (is_sentinel(r) | guides)
+}
+
+// Whether a record is well formed as the entry.
+fn entry_formed(n: u32, r: Rec) -> bool
+    ensures { λ b. ⌜ b ≡ entryForm n r ⌝ }
+{
+    is_sentinel(r) & (((1 <= r.left) & (r.left < n)) & (r.right == 0))
+}
+
+// Whether a record of slot s is well formed, in a table of n slots: by state, slot and links, so that few tests are made.
 pub fn well_formed(n: u32, s: u32, r: Rec) -> bool
     ensures { λ b. ⌜ b ≡ wellFormed n s r ⌝ }
 {
-    let live = (r.state == 1) | (r.state == 2);
-    let marked = (r.number == 4294967295) & ((r.rank == 255) & (r.price == 0));
-    let numbered = r.number < 1000000;
-    let sold = numbered & ((r.price < 100000) & (r.rank == 0));
-    let guides = numbered & ((r.price == 0) & ((1 <= r.rank) & (r.rank <= 28)));
-    let first = (1 <= r.left) & (r.left < n);
-    let second = (1 <= r.right) & (r.right < n);
-    let leaf = (r.left == 0) & (r.right == 0);
-    let inner = first & (second & (r.left != r.right));
-    let entry = marked & (first & (r.right == 0));
-    let plain = (leaf & (marked | sold)) | (inner & (marked | guides));
-    live & (((s == 0) & entry) | ((s != 0) & plain))
+    if !((r.state == 1) | (r.state == 2)) {
+        return false;
+    }
+    if s == 0 {
+        return entry_formed(n, r);
+    }
+    if is_leaf(r) {
+        return leaf_marked(r);
+    }
+    inner_formed(n, r)
 }
 
 // The same of a record that a link leads to.

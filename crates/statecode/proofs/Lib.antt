@@ -4,3 +4,4 @@ pub mod Writing
 pub mod Examples
 pub mod Own
 pub mod Rule
+pub mod Walking

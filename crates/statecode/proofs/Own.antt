@@ -16,7 +16,7 @@ use Rattle.machine.specs.State.{one, settling, countOpen, sound}
 use Rattle.statecode.specs.Code.{workRow, rows, encode, taskBy, tasksBy, stateBy, sameNumbers, isState, noState, decode}
 use Rattle.machine.specs.Choice.{ifB}
 use Rattle.statecode.specs.Own.{ownRow, ownRows, storing}
-use Rattle.statecode.proofs.Writing.{part-all}
+use Rattle.statecode.proofs.Writing.{rows-append, part-all}
 use Rattle.statecode.proofs.Same.{same-self, same-equal}
 use Rattle.statecode.proofs.Inverse.{length-row, length-rows, length-encode, state-back, state-own}
 
@@ -105,7 +105,7 @@ unless-true : (b : Bool) → (b ≡ true → ⊥) → b ≡ false
 unless-true true h = absurd (h refl)
 unless-true false h = refl
 
-eight : (w : List ℕ) → length (stateBy w .tasks) ≡ 8
+pub eight : (w : List ℕ) → length (stateBy w .tasks) ≡ 8
 unfolding stateBy tasksBy
 eight w = refl
 
@@ -135,34 +135,29 @@ unfolding settling
 eight-settling ts zero = omega arith
 eight-settling ts (suc k) = let h = eight-settling ts k in let z = one-most (workSettles (getD ts k idleTask .work)) in omega arith
 
--- the rows with one task stored
-rows-append : (a b : List Task) → rows (a ++ b) ≡ rows a ++ rows b
-unfolding rows
-rows-append [] b = refl
-rows-append (k ∷ ks) b = rw (rows-append ks b) (sym (append-assoc (workRow (k .work)) (rows ks) (rows b)))
-
-module _ (st : State) (i : ℕ) (k : Task) (h : length (st .tasks) ≡ 8) (g : i < 8) where
+-- task i of eight
+module _ (st : State) (i : ℕ) (h : length (st .tasks) ≡ 8) (g : i < 8) where
   -- before task i, its own, behind it
-  abbrev front : List ℕ
+  abbrev pub front : List ℕ
   front = rows (take i (st .tasks))
 
-  abbrev own : List ℕ
+  abbrev pub own : List ℕ
   own = workRow (getD (st .tasks) i idleTask .work)
 
-  abbrev later : List ℕ
+  abbrev pub later : List ℕ
   later = rows (drop (suc i) (st .tasks))
 
-  abbrev ends : List ℕ
+  abbrev pub ends : List ℕ
   ends = st .m ∷ st .u ∷ []
 
-  length-front : length front ≡ 15 * i
+  pub length-front : length front ≡ 15 * i
   length-front = length-rows (take i (st .tasks)) ∙ omega (arith, length-take-le i (st .tasks) (omega arith))
 
   parts : rows (st .tasks) ≡ front ++ (own ++ later)
   unfolding rows
   parts = ap rows (split-at (st .tasks) i idleTask (omega arith)) ∙ rows-append (take i (st .tasks)) (getD (st .tasks) i idleTask ∷ drop (suc i) (st .tasks))
 
-  whole : encode st ≡ front ++ (own ++ (later ++ ends))
+  pub whole : encode st ≡ front ++ (own ++ (later ++ ends))
   unfolding encode
   whole = ap (λ (l : List ℕ). l ++ ends) parts ∙ append-assoc front (own ++ later) ends ∙ ap (λ (l : List ℕ). front ++ l) (append-assoc own later ends)
 
@@ -174,45 +169,58 @@ module _ (st : State) (i : ℕ) (k : Task) (h : length (st .tasks) ≡ 8) (g : i
       ap (drop (15 * i + 15)) (whole ∙ sym (append-assoc front own (later ++ ends)))
       ∙ drop-at (front ++ own) (later ++ ends) (15 * i + 15) (length-append front own ∙ omega (arith, length-front, length-row (getD (st .tasks) i idleTask .work)))
 
-  set-rows : rows (set (st .tasks) i k) ≡ front ++ (workRow (k .work) ++ later)
-  unfolding rows
-  set-rows = ap rows (set-split (st .tasks) i k (omega arith)) ∙ rows-append (take i (st .tasks)) (k ∷ drop (suc i) (st .tasks))
+  -- another task in its place
+  module _ (k : Task) where
+    set-rows : rows (set (st .tasks) i k) ≡ front ++ (workRow (k .work) ++ later)
+    unfolding rows
+    set-rows = ap rows (set-split (st .tasks) i k (omega arith)) ∙ rows-append (take i (st .tasks)) (k ∷ drop (suc i) (st .tasks))
 
-  pasted : paste (encode st) (15 * i) (workRow (k .work)) 15 ≡ rows (set (st .tasks) i k) ++ ends
-  pasted =
-      rw (first-part, last-part, take-all 15 (workRow (k .work)) (omega (arith, length-row (k .work))))
-      (append-assoc front (workRow (k .work)) (later ++ ends)
-      ∙ ap (λ (l : List ℕ). front ++ l) (sym (append-assoc (workRow (k .work)) later ends))
-      ∙ sym (append-assoc front (workRow (k .work) ++ later) ends)
-      ∙ ap (λ (l : List ℕ). l ++ ends) (sym set-rows))
+    pub set-whole : front ++ (workRow (k .work) ++ (later ++ ends)) ≡ rows (set (st .tasks) i k) ++ ends
+    set-whole =
+        ap (λ (l : List ℕ). front ++ l) (sym (append-assoc (workRow (k .work)) later ends))
+        ∙ sym (append-assoc front (workRow (k .work) ++ later) ends)
+        ∙ ap (λ (l : List ℕ). l ++ ends) (sym set-rows)
 
-  length-stored : length (rows (set (st .tasks) i k)) ≡ 120
-  length-stored = length-rows (set (st .tasks) i k) ∙ omega (arith, length-set (st .tasks) i k)
+    pasted : paste (encode st) (15 * i) (workRow (k .work)) 15 ≡ rows (set (st .tasks) i k) ++ ends
+    pasted =
+        rw (first-part, last-part, take-all 15 (workRow (k .work)) (omega (arith, length-row (k .work))))
+        (append-assoc front (workRow (k .work)) (later ++ ends) ∙ set-whole)
 
-  -- a task's row, m and u written over a state's numbers
-  pub stored : (m u : ℕ) → set (set (paste (encode st) (15 * i) (workRow (k .work)) 15) 120 m) 121 u ≡ encode (storing st i k m u)
-  unfolding encode
-  stored m u =
-      let s : List ℕ = rows (set (st .tasks) i k) in
-      let l : length (s ++ (m ∷ [])) ≡ 121 = length-append s (m ∷ []) ∙ omega (arith, length-stored) in
-      rw (pasted, set-at s (st .m) (st .u ∷ []) m 120 length-stored, ← append-snoc s m (st .u ∷ []))
-      (set-at (s ++ (m ∷ [])) (st .u) [] u 121 l ∙ append-snoc s m (u ∷ []))
+    length-stored : length (rows (set (st .tasks) i k)) ≡ 120
+    length-stored = length-rows (set (st .tasks) i k) ∙ omega (arith, length-set (st .tasks) i k)
 
--- the same, of numbers that are a state: they are one again, with the task stored
+    -- a task's row, m and u written over a state's numbers
+    pub stored : (m u : ℕ) → set (set (paste (encode st) (15 * i) (workRow (k .work)) 15) 120 m) 121 u ≡ encode (storing st i k m u)
+    unfolding encode
+    stored m u =
+        let s : List ℕ = rows (set (st .tasks) i k) in
+        let l : length (s ++ (m ∷ [])) ≡ 121 = length-append s (m ∷ []) ∙ omega (arith, length-stored) in
+        rw (pasted, set-at s (st .m) (st .u ∷ []) m 120 length-stored, ← append-snoc s m (st .u ∷ []))
+        (set-at (s ++ (m ∷ [])) (st .u) [] u 121 l ∙ append-snoc s m (u ∷ []))
+
+-- the numbers of a state with a task stored are a state again
+module _ (w last : List ℕ) (i : ℕ) (k : Task) (m u : ℕ) (e : last ≡ encode (storing (stateBy w) i k m u)) where
+  still-eight : length (storing (stateBy w) i k m u .tasks) ≡ 8
+  still-eight = length-set (stateBy w .tasks) i k ∙ eight w
+
+  pub as-stored : stateBy last ≡ storing (stateBy w) i k m u
+  as-stored = rw e (state-back (storing (stateBy w) i k m u) still-eight)
+
+  pub own-stored : isState last ≡ true
+  own-stored = rw e (state-own (storing (stateBy w) i k m u) still-eight)
+
+-- a task's row, m and u written over them
 module _ (w now last : List ℕ) (i : ℕ) (k : Task) (m u : ℕ) (r : List ℕ) (e : isState w ≡ true) (h : i < 8) (er : r ≡ workRow (k .work)) (en : now ≡ paste w (15 * i) r 15) (el : last ≡ set (set now 120 m) 121 u) where
   stored-in : last ≡ encode (storing (stateBy w) i k m u)
   stored-in =
       let z : now ≡ paste (encode (stateBy w)) (15 * i) (workRow (k .work)) 15 = rw (own-encode w e, ← er) en in
-      rw (el, z) (stored (stateBy w) i k (eight w) h m u)
-
-  still-eight : length (storing (stateBy w) i k m u .tasks) ≡ 8
-  still-eight = length-set (stateBy w .tasks) i k ∙ eight w
+      rw (el, z) (stored (stateBy w) i (eight w) h k m u)
 
   pub stored-by : stateBy last ≡ storing (stateBy w) i k m u
-  stored-by = rw stored-in (state-back (storing (stateBy w) i k m u) still-eight)
+  stored-by = as-stored w last i k m u stored-in
 
   pub stored-own : isState last ≡ true
-  stored-own = rw stored-in (state-own (storing (stateBy w) i k m u) still-eight)
+  stored-own = own-stored w last i k m u stored-in
 
 -- the task of a part to the end
 pub part-task : (w : List ℕ) (i : ℕ) → i < 8 → taskBy (take (length w - 15 * i) (drop (15 * i) w)) ≡ getD (stateBy w .tasks) i idleTask

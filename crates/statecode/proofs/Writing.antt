@@ -12,7 +12,7 @@ use Rattle.terms.specs.Task.{idleTask}
 use Rattle.statecode.specs.Code.{workRow, rows, encode}
 use Rattle.statecode.proofs.Inverse.{length-row, length-rows}
 
-rows-append : (a b : List Task) → rows (a ++ b) ≡ rows a ++ rows b
+pub rows-append : (a b : List Task) → rows (a ++ b) ≡ rows a ++ rows b
 unfolding rows
 rows-append [] b = refl
 rows-append (k ∷ ks) b = rw (rows-append ks b) (sym (append-assoc (workRow (k .work)) (rows ks) (rows b)))

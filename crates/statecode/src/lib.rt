@@ -21,6 +21,7 @@ ghost use lib.Seq.{paste};
 ghost use mathlib.Core.Bool.{true};
 ghost use Rattle.terms.specs.Task.{workSettles};
 ghost use Rattle.machine.specs.State.{settling, sound, taskAt};
+ghost use Rattle.statecode.specs.Walking.{walkerBy, putFirst};
 ghost use Rattle.statecode.specs.Own.{clearFrom, ownGoal, ownTwo, ownFour, ownBy, ownRow, storing};
 ghost use Rattle.statecode.specs.Code.{isState, goalNumber, noLinks, noPath, places, putRow, takeRow, settleRow, phaseRow, workRow, rows, encode, jobBy, pathBy, linksBy, goalBy, putBy, takeBy, settleBy, phaseBy, taskBy, stateBy, sameNumbers, noState, decode};
 
@@ -29,13 +30,22 @@ pub struct Row {
     pub at: [u32; 15],
 }
 
+// A task on its way, without its notes: its numbers 0 to 3, 5 and 6.
+pub struct Walker {
+    pub phase: u32,
+    pub job: Job,
+    pub mark: u32,
+    pub parent: u32,
+    pub here: u32,
+}
+
 // A state, or numbers that are none.
 pub struct GotState {
     pub fine: bool,
     pub state: State,
 }
 
-fn goal_number(g: Goal) -> u32
+pub fn goal_number(g: Goal) -> u32
     ensures { λ r. ⌜ r ≡ goalNumber g ⌝ }
 {
     match g {
@@ -124,7 +134,7 @@ fn walk_row(f: u32, j: Job, g: Goal, q: Path) -> Row
     places_of(f, j, goal_number(g), q, o, o, o, o)
 }
 
-fn no_path() -> Path
+pub fn no_path() -> Path
     ensures { λ r. ⌜ r ≡ noPath ⌝ }
 {
     Path {
@@ -223,7 +233,7 @@ fn links_by(w: &[u32], i: usize) -> Links
     }
 }
 
-fn goal_by(g: u32) -> Goal
+pub fn goal_by(g: u32) -> Goal
     ensures { λ r. ⌜ r ≡ goalBy g ⌝ }
 {
     match g {
@@ -576,4 +586,40 @@ pub fn store_task(w: &mut [u32], i: usize, k: Task, m: u32, u: u32)
 {
     put_row_at(w, 15 * i, row_of(k));
     put_ends(w, m, u);
+}
+
+fn walker_by(w: &[u32]) -> Walker
+    requires { ⌜ 15 ≤ length (now w) ⌝ }
+    ensures { λ r. ⌜ r ≡ walkerBy (now (w .entry)) ⌝ }
+{
+    Walker {
+        phase: w[0],
+        job: job_by(w),
+        mark: w[3],
+        parent: w[5],
+        here: w[6],
+    }
+}
+
+// Task i of a state, as a walker.
+pub fn walker_at(w: &[u32], i: usize) -> Walker
+    requires { ⌜ (length (now w) ≡ 122) × (i < 8) ⌝ }
+    ensures { λ r. ⌜ r ≡ walkerBy (drop (15 * i) (now (w .entry))) ⌝ }
+{
+    walker_by(&w[15 * i..])
+}
+
+// The first seven numbers of task i are written.
+pub fn store_walker(w: &mut [u32], i: usize, f: u32, j: Job, k: u32, q: Path)
+    requires { ⌜ (length (now w) ≡ 122) × (i < 8) ⌝ }
+    ensures { λ _. ⌜ now (w .exit) ≡ putFirst (now (w .entry)) (15 * i) f j k q ⌝ }
+{
+    let b = 15 * i;
+    w[b] = f;
+    w[b + 1] = j.number;
+    w[b + 2] = j.price;
+    w[b + 3] = k;
+    w[b + 4] = q.grand;
+    w[b + 5] = q.parent;
+    w[b + 6] = q.here;
 }

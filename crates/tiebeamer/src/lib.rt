@@ -10,34 +10,43 @@ use resetting::reset;
 use state::job_fits;
 use state::number_of;
 use state::one_if;
+use statecode::Walker;
+use statecode::goal_by;
 use statecode::is_sound_by;
 use statecode::is_state;
 use statecode::read_state;
 use statecode::store_task;
+use statecode::store_walker;
 use statecode::task_at;
+use statecode::walker_at;
 use statecode::write_state;
 use stepping::phase_step;
 use terms::Answer;
 use terms::Figures;
 use terms::Job;
 use terms::Out;
+use terms::Path;
 use terms::Task;
 use terms::Turn;
 use terms::Work;
+use walk::Arrival;
+use walk::walk_out;
 use whole::figures;
 use whole::list;
 use whole::tidy;
 ghost use mathlib.Core.Path.{_≡_};
-ghost use mathlib.Core.Bool.{true};
+ghost use mathlib.Core.Bool.{true, false};
 ghost use Prim.Native.Nat.{_≤_, _<_};
-ghost use lib.ListN.{length};
+ghost use lib.ListN.{length, getD};
 ghost use Rattle.machine.specs.Contract.{Sized, after, turnedOut};
 ghost use Rattle.machine.specs.Step.{stepWork, stepOf};
 ghost use Rattle.machine.specs.Table.{slots};
 ghost use Rattle.machine.specs.Answers.{numberOf};
 ghost use Rattle.machine.specs.CallFile.{endLine, runOf};
-ghost use Rattle.statecode.specs.Code.{encode, isState, stateBy};
-ghost use Rattle.tiebeamer.specs.Numbers.{outBy};
+ghost use Rattle.statecode.specs.Code.{encode, isState, stateBy, goalBy};
+ghost use Rattle.walk.specs.Arrived.{turnAt};
+ghost use Rattle.machine.specs.State.{taskAt};
+ghost use Rattle.tiebeamer.specs.Numbers.{outBy, fromOf, grandOf, Walks};
 ghost use Rattle.tiebeamer.specs.Interface.{told, resetTold, beginTold, stepTold, runTold, abandonTold, tidyTold, shown, figuresShown, listShown};
 
 // The state is written; the answer's number.
@@ -137,7 +146,83 @@ fn step_work_by(t: &mut [u32], n: u32, w: &mut [u32], i: usize, k: Work) -> Answ
     }
 }
 
-// A step of task i, the state in its numbers: only the task's own are read as a task and written.
+// The slot that a walker's next step leaves.
+fn from_of(k: Walker) -> u32
+    ensures { λ r. ⌜ r ≡ fromOf k ⌝ }
+{
+    if k.phase == 1 {
+        return 0;
+    }
+    k.here
+}
+
+// The parent of that slot.
+fn grand_of(k: Walker) -> u32
+    ensures { λ r. ⌜ r ≡ grandOf k ⌝ }
+{
+    if k.phase == 1 {
+        return 4294967295;
+    }
+    k.parent
+}
+
+// What a walker came to is stored in its numbers; its answer.
+fn store_arrival(w: &mut [u32], i: usize, k: Walker, q: Path, a: Arrival) -> Answer
+    requires { ⌜ Walks (now w) i k × (getD (now w) 120 0 ≤ 1000000) × (getD (now w) 121 0 ≤ 1000000) ⌝ }
+    ensures { λ r. ⌜ (outBy (now (w .exit)) r ≡ turnedOut (stateBy (now (w .entry))) i (turnAt (goalBy (k .mark)) (k .job) q a) false) × (isState (now (w .exit)) ≡ true) ⌝ }
+{
+    let j = k.job;
+    match a {
+        Arrival::Lost => Answer::Damaged,
+        Arrival::On => {
+            store_walker(w, i, 2, j, k.mark, q);
+            Answer::Accepted
+        }
+        Arrival::Puts => {
+            store_walker(w, i, 3, j, 0, q);
+            Answer::Accepted
+        }
+        Arrival::Takes => {
+            store_walker(w, i, 4, j, 0, q);
+            Answer::Accepted
+        }
+        Arrival::Settles => {
+            store_walker(w, i, 5, j, 0, q);
+            Answer::Accepted
+        }
+        Arrival::Ends(b) => {
+            let m = w[120];
+            let u = w[121];
+            store_turn(w, i, m, u, Turn::Done(b), false)
+        }
+    }
+}
+
+// A step of task i, which walks: only its first seven numbers are read and written.
+fn walk_by(t: &[u32], n: u32, w: &mut [u32], i: usize, k: Walker) -> Answer
+    requires { ⌜ Sized (now t) n × (n ≡ slots (now t)) × Walks (now w) i k ⌝ }
+    ensures { λ r. ⌜ (after (now (t .entry)) (outBy (now (w .exit)) r) ≡ stepWork (now (t .entry)) (stateBy (now (w .entry))) i (taskAt (stateBy (now (w .entry))) i .work)) × (isState (now (w .exit)) ≡ true) ⌝ }
+{
+    let j = k.job;
+    if !(is_sound_by(w) & job_fits(j)) {
+        return Answer::Damaged;
+    }
+    let s = from_of(k);
+    if (k.phase == 2) & (s == 0) {
+        return Answer::Damaged;
+    }
+    let grand = grand_of(k);
+    let r = walk_out(t, n, goal_by(k.mark), j, grand, s);
+    let q = Path {
+        grand: grand,
+        parent: s,
+        here: r.to,
+    };
+    let a = r.at;
+    store_arrival(w, i, k, q, a)
+}
+
+// A step of task i, the state in its numbers: only the task's own are read and written.
 fn step_by(t: &mut [u32], w: &mut [u32], i: u32) -> Answer
     requires { ⌜ (length (now w) ≡ 122) × (isState (now w) ≡ true) ⌝ }
     ensures { λ r. ⌜ (after (now (t .exit)) (outBy (now (w .exit)) r) ≡ stepOf (now (t .entry)) (stateBy (now (w .entry))) i) × (isState (now (w .exit)) ≡ true) ⌝ }
@@ -150,9 +235,14 @@ fn step_by(t: &mut [u32], w: &mut [u32], i: u32) -> Answer
         return Answer::TaskNumber;
     }
     let at = i as usize;
-    let k = task_at(w, at);
-    let f = k.work;
-    step_work_by(t, slots_of(l), w, at, f)
+    let n = slots_of(l);
+    let k = walker_at(w, at);
+    if (1 <= k.phase) & (k.phase <= 2) {
+        return walk_by(t, n, w, at, k);
+    }
+    let o = task_at(w, at);
+    let f = o.work;
+    step_work_by(t, n, w, at, f)
 }
 
 // So many steps, as long as they answer 0.

@@ -29,6 +29,8 @@ ghost use Rattle.machine.specs.Contract.{Sized};
 ghost use Rattle.machine.specs.Table.{view};
 ghost use Rattle.machine.specs.Walk.{atLeaf, serveArrival, settleArrival, arrival, walkTo, walkFrom, walkOn};
 ghost use Rattle.machine.specs.Commit.{reading};
+ghost use Rattle.terms.specs.declared.Goal.the-variants.{Serve, Settle};
+ghost use Rattle.walk.specs.Arrived.{turnAt};
 ghost use Rattle.machine.proofs.Writes.{calmly};
 
 // The task in another phase.
@@ -50,62 +52,78 @@ pub fn calm_turn(a: Turn) -> Outcome
     }
 }
 
+// What a walk comes to at the record arrived at: 17, on with the walk, on to the readings of an operation, or the end.
+pub enum Arrival {
+    Lost,
+    On,
+    Puts,
+    Takes,
+    Settles,
+    Ends(Answer),
+}
+
+// A link was followed: where it leads, and what the walk comes to there.
+pub struct Gone {
+    pub to: u32,
+    pub at: Arrival,
+}
+
 // A leaf is arrived at.
-pub fn at_leaf(o: Operation, j: Job, q: Path, r: Rec) -> Turn
-    ensures { λ a. ⌜ a ≡ atLeaf o j q r ⌝ }
+fn at_leaf(o: Operation, j: Job, q: Path, r: Rec) -> Arrival
+    ensures { λ a. ⌜ turnAt (Serve o) j q a ≡ atLeaf o j q r ⌝ }
 {
     let held = r.number == j.number;
     match o {
         Operation::LookUp => {
             if held {
-                return Turn::Done(Answer::Found(r.price));
+                return Arrival::Ends(Answer::Found(r.price));
             }
-            Turn::Done(Answer::NotHeld)
+            Arrival::Ends(Answer::NotHeld)
         }
         Operation::PutIn => {
             if held {
-                return Turn::Done(Answer::HeldAlready);
+                return Arrival::Ends(Answer::HeldAlready);
             }
-            Turn::Next(busy_in(j, Phase::PuttingIn(q, PutStage::PutParent)))
+            Arrival::Puts
         }
         Operation::TakeOut => {
             if held {
-                return Turn::Next(busy_in(j, Phase::TakingOut(q, TakeStage::TakeGrand)));
+                return Arrival::Takes;
             }
-            Turn::Done(Answer::NotHeld)
+            Arrival::Ends(Answer::NotHeld)
         }
     }
 }
 
 // A record h is arrived at, for an operation.
-pub fn serve_arrival(o: Operation, j: Job, q: Path, h: Rec) -> Turn
-    ensures { λ a. ⌜ a ≡ serveArrival o j q h ⌝ }
+fn serve_arrival(o: Operation, j: Job, q: Path, h: Rec) -> Arrival
+    ensures { λ a. ⌜ turnAt (Serve o) j q a ≡ serveArrival o j q h ⌝ }
 {
     if is_leaf(h) {
         return at_leaf(o, j, q, h);
     }
-    Turn::Next(busy_in(j, Phase::Walk(Goal::Serve(o), q)))
+    Arrival::On
 }
 
 // A record h is arrived at below p, on a walk that settles.
-pub fn settle_arrival(j: Job, q: Path, p: Rec, h: Rec) -> Turn
-    ensures { λ a. ⌜ a ≡ settleArrival j q p h ⌝ }
+fn settle_arrival(j: Job, q: Path, p: Rec, h: Rec) -> Arrival
+    ensures { λ a. ⌜ turnAt Settle j q a ≡ settleArrival j q p h ⌝ }
 {
     if outranks(h, p) {
-        return Turn::Hurt;
+        return Arrival::Lost;
     }
     if is_level(p, h) {
-        return Turn::Next(busy_in(j, Phase::Settling(q, SettleStage::SettleGrand)));
+        return Arrival::Settles;
     }
     if is_leaf(h) {
-        return Turn::Done(Answer::PutSettled);
+        return Arrival::Ends(Answer::PutSettled);
     }
-    Turn::Next(busy_in(j, Phase::Walk(Goal::Settle, q)))
+    Arrival::On
 }
 
 // The arrival rule.
-pub fn arrive(g: Goal, j: Job, q: Path, p: Rec, h: Rec) -> Turn
-    ensures { λ a. ⌜ a ≡ arrival g j q p h ⌝ }
+fn arrive(g: Goal, j: Job, q: Path, p: Rec, h: Rec) -> Arrival
+    ensures { λ a. ⌜ turnAt g j q a ≡ arrival g j q p h ⌝ }
 {
     match g {
         Goal::Serve(o) => serve_arrival(o, j, q, h),
@@ -114,39 +132,68 @@ pub fn arrive(g: Goal, j: Job, q: Path, p: Rec, h: Rec) -> Turn
 }
 
 // The record arrived at is read; p is the one that the walk left.
-pub fn walk_to(t: &[u32], n: u32, g: Goal, j: Job, q: Path, p: Rec) -> Turn
+fn walk_to(t: &[u32], n: u32, g: Goal, j: Job, q: Path, p: Rec) -> Arrival
     requires { ⌜ Sized (now t) n × (p ≡ view n (now t) (q .parent)) ⌝ }
-    ensures { λ a. ⌜ a ≡ walkTo (view n (now (t .entry))) n g j q ⌝ }
+    ensures { λ a. ⌜ turnAt g j q a ≡ walkTo (view n (now (t .entry))) n g j q ⌝ }
 {
     let h = load(t, n, q.here);
     if !is_linked(n, q.here, h) {
-        return Turn::Hurt;
+        return Arrival::Lost;
     }
     arrive(g, j, q, p, h)
 }
 
 // One step of a walk: it leaves slot s, whose parent is the slot grand.
+pub fn walk_out(t: &[u32], n: u32, g: Goal, j: Job, grand: u32, s: u32) -> Gone
+    requires { ⌜ Sized (now t) n ⌝ }
+    ensures { λ r. ⌜ turnAt g j (record { grand = grand; parent = s; here = r .to }) (r .at) ≡ walkFrom (view n (now (t .entry))) n g j grand s ⌝ }
+{
+    let p = load(t, n, s);
+    if !well_formed(n, s, p) {
+        return Gone {
+            to: 0,
+            at: Arrival::Lost,
+        };
+    }
+    let to = sought_link(j.number, p);
+    let q = Path {
+        grand: grand,
+        parent: s,
+        here: to,
+    };
+    Gone {
+        to: to,
+        at: walk_to(t, n, g, j, q, p),
+    }
+}
+
+// The turn of a task that walked to q.
+fn turn_at(g: Goal, j: Job, q: Path, a: Arrival) -> Turn
+    ensures { λ r. ⌜ r ≡ turnAt g j q a ⌝ }
+{
+    match a {
+        Arrival::Lost => Turn::Hurt,
+        Arrival::On => Turn::Next(busy_in(j, Phase::Walk(g, q))),
+        Arrival::Puts => Turn::Next(busy_in(j, Phase::PuttingIn(q, PutStage::PutParent))),
+        Arrival::Takes => Turn::Next(busy_in(j, Phase::TakingOut(q, TakeStage::TakeGrand))),
+        Arrival::Settles => Turn::Next(busy_in(j, Phase::Settling(q, SettleStage::SettleGrand))),
+        Arrival::Ends(b) => Turn::Done(b),
+    }
+}
+
+// The same step as a turn of its task.
 pub fn walk_from(t: &[u32], n: u32, g: Goal, j: Job, grand: u32, s: u32) -> Turn
     requires { ⌜ Sized (now t) n ⌝ }
     ensures { λ a. ⌜ a ≡ walkFrom (view n (now (t .entry))) n g j grand s ⌝ }
 {
-    let p = load(t, n, s);
-    if !well_formed(n, s, p) {
-        return Turn::Hurt;
-    }
-    let to = sought_link(j.number, p);
-    walk_to(
-        t,
-        n,
-        g,
-        j,
-        Path {
-            grand: grand,
-            parent: s,
-            here: to,
-        },
-        p,
-    )
+    let r = walk_out(t, n, g, j, grand, s);
+    let q = Path {
+        grand: grand,
+        parent: s,
+        here: r.to,
+    };
+    let a = r.at;
+    turn_at(g, j, q, a)
 }
 
 // A walk that goes on from where the task stands.

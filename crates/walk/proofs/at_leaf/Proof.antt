@@ -1,47 +1,52 @@
-use Rattle.machine.specs.Choice.{ifB}
 use Rattle.machine.specs.Walk.{atLeaf}
+use Rattle.walk.specs.Arrived.{turnAt}
+use Rattle.machine.specs.Choice.{ifB}
 use borrow.Author.Needs.{needs}
 use Rattle.walk.proofs.at_leaf.Statement.{statement}
 use Rattle.walk.proofs.at_leaf.Tie as tie
-use Rattle.walk.proofs.busy_in.Reads as busy-in-reads
+use Rattle.walk.proofs.at_leaf.Reads as reads
+use Rattle.walk.proofs.at_leaf.Lts as lts
 
+-- src/lib.rt:76:16
 enum-told : tie.Need-enum-told
 enum-told c = search needs
 
+-- src/lib.rt:77:17
 returns : tie.Need-returns
-unfolding atLeaf ifB
+unfolding turnAt atLeaf ifB
 returns c = simp (c .before .enum-told .given .1, c .if1 .taken)
 
+-- src/lib.rt:82:16
 enum-told-2 : tie.Need-enum-told-2
 enum-told-2 c = search needs
 
+-- src/lib.rt:83:17
 returns-2 : tie.Need-returns-2
-unfolding atLeaf ifB
+unfolding turnAt atLeaf ifB
 returns-2 c = simp (c .before .enum-told2 .given .1, c .if2 .taken)
 
-busy-in-requires : tie.Need-busy-in-requires
-busy-in-requires c κs = search needs
-
+-- src/lib.rt:88:16
 enum-told-3 : tie.Need-enum-told-3
 enum-told-3 c = search needs
 
-busy-in-requires-2 : tie.Need-busy-in-requires-2
-busy-in-requires-2 c κs = search needs
-
+-- src/lib.rt:89:17
 returns-3 : tie.Need-returns-3
-unfolding atLeaf ifB
-returns-3 c = simp (c .before .before .enum-told3 .given .1, c .before .if3 .taken, c .busy-in2 .ensures)
+unfolding turnAt atLeaf ifB
+returns-3 c = simp (c .before .enum-told3 .given .1, c .if3 .taken)
 
+-- src/lib.rt:70:1
 returns-4 : tie.Need-returns-4
-unfolding atLeaf ifB
+unfolding turnAt atLeaf ifB
 returns-4 c = simp (c .before .enum-told .given .1, c .if1 .left)
 
+-- src/lib.rt:70:1
 returns-5 : tie.Need-returns-5
-unfolding atLeaf ifB
-returns-5 c = simp (c .before .before .enum-told2 .given .1, c .before .if2 .left, c .busy-in .ensures)
+unfolding turnAt atLeaf ifB
+returns-5 c = simp (c .before .enum-told2 .given .1, c .if2 .left)
 
+-- src/lib.rt:70:1
 returns-6 : tie.Need-returns-6
-unfolding atLeaf ifB
+unfolding turnAt atLeaf ifB
 returns-6 c = simp (c .before .enum-told3 .given .1, c .if3 .left)
 
 pub at-leaf-spec : {M : Type 1} → statement M
@@ -52,9 +57,7 @@ at-leaf-spec =
     returns
     enum-told-2
     returns-2
-    busy-in-requires
     enum-told-3
-    busy-in-requires-2
     returns-3
     returns-4
     returns-5

@@ -1,42 +1,46 @@
-use Rattle.machine.specs.Choice.{ifB}
 use Rattle.machine.specs.Walk.{settleArrival}
+use Rattle.walk.specs.Arrived.{turnAt}
+use Rattle.machine.specs.Choice.{ifB}
 use borrow.Author.Needs.{needs}
 use Rattle.walk.proofs.settle_arrival.Statement.{statement}
 use Rattle.walk.proofs.settle_arrival.Tie as tie
+use Rattle.walk.proofs.settle_arrival.Reads as reads
+use Rattle.walk.proofs.settle_arrival.Lts as lts
 use Rattle.fields.proofs.is_leaf.Reads as is-leaf-reads
 use Rattle.fields.proofs.is_level.Reads as is-level-reads
-use Rattle.walk.proofs.busy_in.Reads as busy-in-reads
+use Rattle.fields.proofs.outranks.Reads as outranks-reads
 
+-- src/lib.rt:110:8
 outranks-requires : tie.Need-outranks-requires
 outranks-requires c κs = search needs
 
+-- src/lib.rt:111:9
 returns : tie.Need-returns
-unfolding settleArrival ifB
+unfolding turnAt settleArrival ifB
 returns c = simp (← c .before .outranks .ensures, c .if1 .taken)
 
+-- src/lib.rt:113:8
 is-level-requires : tie.Need-is-level-requires
 is-level-requires c κs = search needs
 
-busy-in-requires : tie.Need-busy-in-requires
-busy-in-requires c κs = search needs
-
+-- src/lib.rt:114:9
 returns-2 : tie.Need-returns-2
-unfolding settleArrival ifB
-returns-2 c = simp (← c .before .before .before .before .outranks .ensures, c .before .before .before .if1 .left, ← c .before .before .is-level .ensures, c .before .if2 .taken, c .busy-in .ensures)
+unfolding turnAt settleArrival ifB
+returns-2 c = simp (← c .before .before .before .outranks .ensures, c .before .before .if1 .left, ← c .before .is-level .ensures, c .if2 .taken)
 
+-- src/lib.rt:116:8
 is-leaf-requires : tie.Need-is-leaf-requires
 is-leaf-requires c κs = search needs
 
+-- src/lib.rt:117:9
 returns-3 : tie.Need-returns-3
-unfolding settleArrival ifB
+unfolding turnAt settleArrival ifB
 returns-3 c = simp (← c .before .before .before .before .before .outranks .ensures, c .before .before .before .before .if1 .left, ← c .before .before .before .is-level .ensures, c .before .before .if2 .left, ← c .before .is-leaf .ensures, c .if3 .taken)
 
-busy-in-requires-2 : tie.Need-busy-in-requires-2
-busy-in-requires-2 c κs = search needs
-
+-- src/lib.rt:107:1
 returns-4 : tie.Need-returns-4
-unfolding settleArrival ifB
-returns-4 c = simp (← c .before .before .before .before .before .before .outranks .ensures, c .before .before .before .before .before .if1 .left, ← c .before .before .before .before .is-level .ensures, c .before .before .before .if2 .left, ← c .before .before .is-leaf .ensures, c .before .if3 .left, c .busy-in2 .ensures)
+unfolding turnAt settleArrival ifB
+returns-4 c = simp (← c .before .before .before .before .before .outranks .ensures, c .before .before .before .before .if1 .left, ← c .before .before .before .is-level .ensures, c .before .before .if2 .left, ← c .before .is-leaf .ensures, c .if3 .left)
 
 pub settle-arrival-spec : {M : Type 1} → statement M
 settle-arrival-spec =
@@ -45,9 +49,7 @@ settle-arrival-spec =
     outranks-requires
     returns
     is-level-requires
-    busy-in-requires
     returns-2
     is-leaf-requires
     returns-3
-    busy-in-requires-2
     returns-4)

@@ -1,39 +1,23 @@
-use Rattle.machine.specs.Choice.{ifB}
-use Rattle.machine.specs.Walk.{walkFrom}
+use mathlib.Core.Path.{_∙_}
 use borrow.Author.Needs.{needs}
 use Rattle.walk.proofs.walk_from.Statement.{statement}
 use Rattle.walk.proofs.walk_from.Tie as tie
-use Rattle.fields.proofs.sought_link.Reads as sought-link-reads
-use Rattle.fields.proofs.well_formed.Reads as well-formed-reads
-use Rattle.walk.proofs.walk_to.Reads as walk-to-reads
+use Rattle.walk.proofs.walk_from.Reads as reads
+use Rattle.walk.proofs.walk_from.Lts as lts
+use Rattle.walk.proofs.turn_at.Reads as turn-at-reads
+use Rattle.walk.proofs.walk_out.Reads as walk-out-reads
 
-load-requires : tie.Need-load-requires
-load-requires c κs = search needs
+-- src/lib.rt:199:9
+walk-out-requires : tie.Need-walk-out-requires
+walk-out-requires c κs = search needs
 
-well-formed-requires : tie.Need-well-formed-requires
-well-formed-requires c κs = search needs
+-- src/lib.rt:206:5
+turn-at-requires : tie.Need-turn-at-requires
+turn-at-requires c κs = search needs
 
+-- src/lib.rt:195:1
 returns : tie.Need-returns
-unfolding walkFrom ifB
-returns c = simp (← c .before .before .load .ensures, ← c .before .well-formed .ensures, c .if1 .taken)
-
-sought-link-requires : tie.Need-sought-link-requires
-sought-link-requires c κs = search needs
-
-walk-to-requires : tie.Need-walk-to-requires
-walk-to-requires c κs = search needs
-
-returns-2 : tie.Need-returns-2
-unfolding walkFrom ifB
-returns-2 c = simp (← c .before .before .before .before .load .ensures, ← c .before .before .before .well-formed .ensures, c .before .before .if1 .left, ← c .before .sought-link .ensures, c .walk-to .ensures)
+returns c = c .turn-at .ensures ∙ c .before .walk-out .ensures
 
 pub walk-from-spec : {M : Type 1} → statement M
-walk-from-spec =
-    tie.close
-    (tie.spec
-    load-requires
-    well-formed-requires
-    returns
-    sought-link-requires
-    walk-to-requires
-    returns-2)
+walk-from-spec = tie.close (tie.spec walk-out-requires turn-at-requires returns)
