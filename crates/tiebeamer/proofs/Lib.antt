@@ -4,5 +4,6 @@ pub mod Kept
 pub mod Never
 pub mod Strict
 pub mod Walks
+pub mod Begins
 pub mod Unchanged
 pub mod ByNumbers

@@ -136,6 +136,12 @@ module _ (t w : List ℕ) (b : Bool) (eb : b ≡ isState w) where
   pub step-no-state : not b ≡ true → (i p : ℕ) → told 50 p t w ≡ stepTold t w i p
   step-no-state e i p = step-none t w noState (none-read w b eb e) refl i p
 
+  pub begin-no-state : not b ≡ true → (i o n p : ℕ) → told 50 0 t w ≡ beginTold t w i o n p
+  begin-no-state e i o n p = begin-none t w noState (none-read w b eb e) refl i o n p
+
+  pub abandon-no-state : not b ≡ true → (i : ℕ) → told 50 0 t w ≡ abandonTold t w i
+  abandon-no-state e i = abandon-none t w noState (none-read w b eb e) refl i
+
   pub run-no-state : not b ≡ true → (i c p : ℕ) → told 50 p t w ≡ runTold t w i c p
   run-no-state e i c p = run-none t w noState (none-read w b eb e) refl i c p
 
@@ -145,6 +151,20 @@ module _ (t w : List ℕ) (b : Bool) (eb : b ≡ isState w) where
 
     pub run-no-call : (i c p : ℕ) → not (leb 1 c && leb c 65535) ≡ true → told 51 p t w ≡ runTold t w i c p
     run-no-call i c p e = run-other t w (got (stateBy w)) (some-read w b eb f (stateBy w) refl) refl i c p e
+
+    pub begin-no-call : (i o n p : ℕ) → not (leb 1 o && leb o 3) ≡ true → told 51 0 t w ≡ beginTold t w i o n p
+    begin-no-call i o n p e = begin-other t w (got (stateBy w)) (some-read w b eb f (stateBy w) refl) refl i o n p e
+
+    module _ (w′ : List ℕ) (a : Answer) (own : isState w′ ≡ true) (n : ℕ) (en : n ≡ numberOf a) where
+      pub begin-stored :
+          (i o x p : ℕ) → not (leb 1 o && leb o 3) ≡ false → (y : Operation) → y ≡ operationOf o
+          → after t (outBy w′ a) ≡ beginOf t (stateBy w) i y (record { number = x; price = p }) → told n 0 t w′ ≡ beginTold t w i o x p
+      begin-stored i o x p h y ey e =
+          begin-made t w (got (stateBy w)) (some-read w b eb f (stateBy w) refl) refl t (outBy w′ a) n w′ en (sym (own-encode w′ own)) i o x p h y ey e
+
+      pub abandon-stored : (i : ℕ) → after t (outBy w′ a) ≡ abandonOf t (stateBy w) i → told n 0 t w′ ≡ abandonTold t w i
+      abandon-stored i e =
+          abandon-made t w (got (stateBy w)) (some-read w b eb f (stateBy w) refl) refl t (outBy w′ a) n w′ en (sym (own-encode w′ own)) i e
 
     module _ (t′ w′ : List ℕ) (a : Answer) (own : isState w′ ≡ true) (n q : ℕ) (en : n ≡ numberOf a) (eq : q ≡ priceOf a) where
       pub step-stored : (i p : ℕ) → after t′ (outBy w′ a) ≡ stepOf t (stateBy w) i → told n q t′ w′ ≡ stepTold t w i p

@@ -1,19 +1,20 @@
 // The fare table for C and Rust: table and state are lent as slices of 32-bit numbers, an answer is its number
 // (docs/INTERFACE.md). Each call is one equation to its definition, and none has a `requires`.
-use beginning::abandon;
-use beginning::begin;
 use callfile::operation_of;
 use callfile::price_of;
 use fields::length_fits;
 use fields::slots_of;
 use resetting::reset;
+use state::ask_fits;
 use state::job_fits;
 use state::number_of;
 use state::one_if;
 use statecode::Walker;
 use statecode::goal_by;
+use statecode::goal_number;
 use statecode::is_sound_by;
 use statecode::is_state;
+use statecode::no_path;
 use statecode::read_state;
 use statecode::store_task;
 use statecode::store_walker;
@@ -23,7 +24,9 @@ use statecode::write_state;
 use stepping::phase_step;
 use terms::Answer;
 use terms::Figures;
+use terms::Goal;
 use terms::Job;
+use terms::Operation;
 use terms::Out;
 use terms::Path;
 use terms::Task;
@@ -42,6 +45,7 @@ ghost use Rattle.machine.specs.Contract.{Sized, after, turnedOut};
 ghost use Rattle.machine.specs.Step.{stepWork, stepOf};
 ghost use Rattle.machine.specs.Table.{slots};
 ghost use Rattle.machine.specs.Answers.{numberOf};
+ghost use Rattle.machine.specs.Calls.{beginOf, abandonOf};
 ghost use Rattle.machine.specs.CallFile.{endLine, runOf};
 ghost use Rattle.statecode.specs.Code.{encode, isState, stateBy, goalBy};
 ghost use Rattle.walk.specs.Arrived.{turnAt};
@@ -73,6 +77,32 @@ pub extern "C" fn tiebeamer_reset(table: &mut [u32], state: &mut [u32]) -> u32
     hand_back(state, o)
 }
 
+// Task i begins an operation; the first seven numbers of an idle task are written.
+fn begin_by(t: &[u32], w: &mut [u32], i: u32, o: Operation, j: Job) -> Answer
+    requires { ⌜ (length (now w) ≡ 122) × (isState (now w) ≡ true) ⌝ }
+    ensures { λ r. ⌜ (after (now (t .entry)) (outBy (now (w .exit)) r) ≡ beginOf (now (t .entry)) (stateBy (now (w .entry))) i o j) × (isState (now (w .exit)) ≡ true) ⌝ }
+{
+    if !length_fits(t.len()) {
+        return Answer::Length;
+    }
+    if 7 < i {
+        return Answer::TaskNumber;
+    }
+    if !ask_fits(o, j) {
+        return Answer::OutOfRange;
+    }
+    let at = i as usize;
+    let k = walker_at(w, at);
+    if k.phase != 0 {
+        return Answer::TaskBusy;
+    }
+    if !is_sound_by(w) {
+        return Answer::Damaged;
+    }
+    store_walker(w, at, 1, j, goal_number(Goal::Serve(o)), no_path());
+    Answer::Accepted
+}
+
 // The operation is 1 look up, 2 put in, 3 take out.
 #[no_mangle]
 pub extern "C" fn tiebeamer_begin(
@@ -85,20 +115,18 @@ pub extern "C" fn tiebeamer_begin(
 ) -> u32
     ensures { λ r. ⌜ told r 0 (now (table .entry)) (now (state .exit)) ≡ beginTold (now (table .entry)) (now (state .entry)) task operation number price ⌝ }
 {
-    let g = read_state(state);
-    if !g.fine {
+    if !is_state(state) {
         return 50;
     }
     if !((1 <= operation) & (operation <= 3)) {
         return 51;
     }
-    let st = g.state;
     let j = Job {
         number: number,
         price: price,
     };
-    let o = begin(table, st, task, operation_of(operation), j);
-    hand_back(state, o)
+    let a = begin_by(table, state, task, operation_of(operation), j);
+    number_of(a)
 }
 
 // A turn of task i is stored in the state; its answer.
@@ -300,17 +328,44 @@ pub extern "C" fn tiebeamer_run(
     number_of(a)
 }
 
+// Task i is abandoned; its numbers are read as a task.
+fn abandon_by(t: &[u32], w: &mut [u32], i: u32) -> Answer
+    requires { ⌜ (length (now w) ≡ 122) × (isState (now w) ≡ true) ⌝ }
+    ensures { λ r. ⌜ (after (now (t .entry)) (outBy (now (w .exit)) r) ≡ abandonOf (now (t .entry)) (stateBy (now (w .entry))) i) × (isState (now (w .exit)) ≡ true) ⌝ }
+{
+    if !length_fits(t.len()) {
+        return Answer::Length;
+    }
+    if 7 < i {
+        return Answer::TaskNumber;
+    }
+    let at = i as usize;
+    let k = task_at(w, at);
+    if !k.is_busy() {
+        return Answer::TaskIdle;
+    }
+    if !is_sound_by(w) {
+        return Answer::Damaged;
+    }
+    let m = w[120];
+    let u = w[121];
+    if k.settles() {
+        store_task(w, at, k.abandoned(), m, u + 1);
+        return Answer::PutUnsettled;
+    }
+    store_task(w, at, k.abandoned(), m, u);
+    Answer::Accepted
+}
+
 #[no_mangle]
 pub extern "C" fn tiebeamer_abandon(table: &[u32], state: &mut [u32], task: u32) -> u32
     ensures { λ r. ⌜ told r 0 (now (table .entry)) (now (state .exit)) ≡ abandonTold (now (table .entry)) (now (state .entry)) task ⌝ }
 {
-    let g = read_state(state);
-    if !g.fine {
+    if !is_state(state) {
         return 50;
     }
-    let st = g.state;
-    let o = abandon(table, st, task);
-    hand_back(state, o)
+    let a = abandon_by(table, state, task);
+    number_of(a)
 }
 
 #[no_mangle]
@@ -323,7 +378,8 @@ pub extern "C" fn tiebeamer_tidy(table: &mut [u32], state: &mut [u32]) -> u32
     }
     let st = g.state;
     let o = tidy(table, st);
-    hand_back(state, o)
+    let a = o.answer;
+    number_of(a)
 }
 
 // The figures, in their order.

@@ -1,39 +1,50 @@
-use Rattle.tiebeamer.proofs.Rows.{fine-length, abandon-none, abandon-made}
+use Rattle.tiebeamer.proofs.Rows.{abandon-no-state, is-own, abandon-stored}
+use Rattle.statecode.proofs.Own.{some-length}
 use borrow.Author.Needs.{needs}
 use Rattle.tiebeamer.proofs.tiebeamer_abandon.Statement.{statement}
 use Rattle.tiebeamer.proofs.tiebeamer_abandon.Tie as tie
-use Rattle.statecode.proofs.read_state.Reads as read-state-reads
-use Rattle.tiebeamer.proofs.hand_back.Reads as hand-back-reads
+use Rattle.tiebeamer.proofs.tiebeamer_abandon.Reads as reads
+use Rattle.tiebeamer.proofs.tiebeamer_abandon.Lts as lts
+use Rattle.state.proofs.number_of.Reads as number-of-reads
+use Rattle.statecode.proofs.is_state.Reads as is-state-reads
+use Rattle.tiebeamer.proofs.abandon_by.Reads as abandon-by-reads
 
-read-state-requires : tie.Need-read-state-requires
-read-state-requires c κs = search needs
+-- src/lib.rt:364:9
+is-state-requires : tie.Need-is-state-requires
+is-state-requires c κs = search needs
 
+-- src/lib.rt:365:9
 same-length : tie.Need-same-length
 same-length c = search needs
 
+-- src/lib.rt:365:9
 returns : tie.Need-returns
-returns c = abandon-none (c .before .before .before .before .before .before .args .table .now) (c .before .before .before .before .before .before .args .state .now) _ (c .before .before .read-state .ensures) (c .if1 .taken) _
+returns c = abandon-no-state (c .before .before .before .before .before .args .table .now) (c .before .before .before .before .before .args .state .now) _ (c .before .is-state .ensures) (c .if1 .taken) _
 
-abandon-requires : tie.Need-abandon-requires
-abandon-requires c κs = search needs
+-- src/lib.rt:367:9
+abandon-by-requires : tie.Need-abandon-by-requires
+abandon-by-requires c κs = (some-length _ _ (c .before .before .is-state .ensures) (c .before .if1 .left), is-own (c .before .before .before .before .before .before .args .table .now) (c .before .before .before .before .before .before .args .state .now) _ (c .before .before .is-state .ensures) (c .before .if1 .left))
 
-hand-back-requires : tie.Need-hand-back-requires
-hand-back-requires c κs = fine-length (c .before .before .before .before .before .before .before .before .before .args .table .now) (c .before .before .before .before .before .before .before .before .before .args .state .now) _ (c .before .before .before .before .before .read-state .ensures) (c .before .before .before .if1 .left)
+-- src/lib.rt:368:5
+number-of-requires : tie.Need-number-of-requires
+number-of-requires c κs = search needs
 
+-- src/lib.rt:360:1
 same-length-2 : tie.Need-same-length-2
 same-length-2 c = search needs
 
+-- src/lib.rt:360:1
 returns-2 : tie.Need-returns-2
-returns-2 c = abandon-made (c .before .before .before .before .before .before .before .before .before .before .before .before .args .table .now) (c .before .before .before .before .before .before .before .before .before .before .before .before .args .state .now) _ (c .before .before .before .before .before .before .before .before .read-state .ensures) (c .before .before .before .before .before .before .if1 .left) _ _ _ _ (c .before .before .hand-back .ensures .0) (c .before .before .hand-back .ensures .1) _ (c .before .before .before .before .abandon .ensures)
+returns-2 c = abandon-stored (c .before .before .before .before .before .before .before .before .before .before .args .table .now) (c .before .before .before .before .before .before .before .before .before .before .args .state .now) _ (c .before .before .before .before .before .before .is-state .ensures) (c .before .before .before .before .before .if1 .left) _ _ (c .before .before .before .abandon-by .ensures .1) _ (c .number-of .ensures) _ (c .before .before .before .abandon-by .ensures .0)
 
 pub tiebeamer-abandon-spec : {M : Type 1} → statement M
 tiebeamer-abandon-spec =
     tie.close
     (tie.spec
-    read-state-requires
+    is-state-requires
     same-length
     returns
-    abandon-requires
-    hand-back-requires
+    abandon-by-requires
+    number-of-requires
     same-length-2
     returns-2)
