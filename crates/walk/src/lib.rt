@@ -51,7 +51,7 @@ pub fn calm_turn(a: Turn) -> Outcome
 }
 
 // A leaf is arrived at.
-pub fn at_leaf(o: Operation, j: Job, q: Path, r: Rec) -> Turn
+fn at_leaf(o: Operation, j: Job, q: Path, r: Rec) -> Turn
     ensures { λ a. ⌜ a ≡ atLeaf o j q r ⌝ }
 {
     let held = r.number == j.number;
@@ -78,7 +78,7 @@ pub fn at_leaf(o: Operation, j: Job, q: Path, r: Rec) -> Turn
 }
 
 // A record h is arrived at, for an operation.
-pub fn serve_arrival(o: Operation, j: Job, q: Path, h: Rec) -> Turn
+fn serve_arrival(o: Operation, j: Job, q: Path, h: Rec) -> Turn
     ensures { λ a. ⌜ a ≡ serveArrival o j q h ⌝ }
 {
     if is_leaf(h) {
@@ -88,7 +88,7 @@ pub fn serve_arrival(o: Operation, j: Job, q: Path, h: Rec) -> Turn
 }
 
 // A record h is arrived at below p, on a walk that settles.
-pub fn settle_arrival(j: Job, q: Path, p: Rec, h: Rec) -> Turn
+fn settle_arrival(j: Job, q: Path, p: Rec, h: Rec) -> Turn
     ensures { λ a. ⌜ a ≡ settleArrival j q p h ⌝ }
 {
     if outranks(h, p) {
@@ -104,7 +104,7 @@ pub fn settle_arrival(j: Job, q: Path, p: Rec, h: Rec) -> Turn
 }
 
 // The arrival rule.
-pub fn arrive(g: Goal, j: Job, q: Path, p: Rec, h: Rec) -> Turn
+fn arrive(g: Goal, j: Job, q: Path, p: Rec, h: Rec) -> Turn
     ensures { λ a. ⌜ a ≡ arrival g j q p h ⌝ }
 {
     match g {
@@ -114,7 +114,7 @@ pub fn arrive(g: Goal, j: Job, q: Path, p: Rec, h: Rec) -> Turn
 }
 
 // The record arrived at is read; p is the one that the walk left.
-pub fn walk_to(t: &[u32], n: u32, g: Goal, j: Job, q: Path, p: Rec) -> Turn
+fn walk_to(t: &[u32], n: u32, g: Goal, j: Job, q: Path, p: Rec) -> Turn
     requires { ⌜ Sized (now t) n × (p ≡ view n (now t) (q .parent)) ⌝ }
     ensures { λ a. ⌜ a ≡ walkTo (view n (now (t .entry))) n g j q ⌝ }
 {
