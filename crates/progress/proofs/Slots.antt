@@ -7,7 +7,7 @@ use mathlib.Core.Logic.{_⊎_, inl, inr}
 use mathlib.Core.Path.{_≡_, _∙_, ap, refl, sym, subst}
 use native.Mathlib.Omega.{arith}
 use Rattle.demand2.proofs.Counts.{all-alike}
-use Rattle.grounds.proofs.Spans.{unmarked, unmarked-all, unmarked-set}
+use Rattle.machine.proofs.Marks.{unmarked, unmarked-all, unmarked-set}
 use Rattle.machine.specs.Table.{View, view}
 use Rattle.routes.specs.Route.{next}
 use Rattle.machine.specs.Record.{freeRec}
