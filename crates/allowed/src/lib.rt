@@ -40,7 +40,7 @@ const FIBONACCI: [u32; 32] = [
 ];
 
 // A number of the table: the Fibonacci number at place i + 1.
-pub fn fibonacci_at(i: usize) -> u32
+fn fibonacci_at(i: usize) -> u32
     requires { ⌜ i < 32 ⌝ }
     ensures { λ r. ⌜ (r ≡ getD fibonacci i 0) × (r ≡ fib (i + 1)) ⌝ }
 {

@@ -112,7 +112,7 @@ fn by_operation(o: u32, b: &[u8]) -> Call
 }
 
 // The call of a record; a short one is bad.
-pub fn call_of(b: &[u8]) -> Call
+fn call_of(b: &[u8]) -> Call
     ensures { λ r. ⌜ r ≡ decode (now (b .entry)) ⌝ }
 {
     if b.len() < 12 {
@@ -122,7 +122,7 @@ pub fn call_of(b: &[u8]) -> Call
 }
 
 // Operation 4: so many steps of task i, as long as they answer 0.
-pub fn run(t: &mut [u32], st: State, i: u32, count: u32) -> Out
+fn run(t: &mut [u32], st: State, i: u32, count: u32) -> Out
     ensures { λ r. ⌜ after (now (t .exit)) r ≡ runOf count (now (t .entry)) st i ⌝ }
 {
     if count == 0 {
@@ -146,7 +146,7 @@ pub fn run(t: &mut [u32], st: State, i: u32, count: u32) -> Out
 }
 
 // The call is made.
-pub fn serve_call(t: &mut [u32], st: State, c: Call) -> Out
+fn serve_call(t: &mut [u32], st: State, c: Call) -> Out
     ensures { λ r. ⌜ after (now (t .exit)) r ≡ serve (now (t .entry)) st c ⌝ }
 {
     match c {
@@ -206,7 +206,7 @@ fn printed_at(b: &[u8], i: usize) -> u32
     wide(b[i])
 }
 
-pub fn line_of(place: u64, b: &[u8], a: Answer) -> Line
+fn line_of(place: u64, b: &[u8], a: Answer) -> Line
     ensures { λ r. ⌜ numbers r ≡ lineOf place (now (b .entry)) a ⌝ }
 {
     Line {

@@ -40,14 +40,14 @@ ghost use Rattle.machine.specs.Rows.{aroundOf};
 ghost use Rattle.machine.specs.Settling.{promoteBy, commitThree, commitFour, chooseFormed, turnFormed, chooseBy, chooseStep, rotateOn, rotateTurn, rotateFirst, rotateStep, doubleTurn, doubleFirst, doubleStep, settleStep};
 
 // What a step that must choose reads.
-pub fn choose_formed(n: u32, q: Path, b: Links, z: Rec, x: Rec, s: Rec) -> bool
+fn choose_formed(n: u32, q: Path, b: Links, z: Rec, x: Rec, s: Rec) -> bool
     ensures { λ r. ⌜ r ≡ chooseFormed n q b z x s ⌝ }
 {
     let i = other_link(b, q.here);
     well_formed(n, q.parent, z) & (is_linked(n, q.here, x) & is_linked(n, i, s))
 }
 
-pub fn turn_formed(n: u32, o: Around, y: Rec, w: Rec) -> bool
+fn turn_formed(n: u32, o: Around, y: Rec, w: Rec) -> bool
     ensures { λ r. ⌜ r ≡ turnFormed n o y w ⌝ }
 {
     is_linked(n, o.y, y) & is_linked(n, o.w, w)

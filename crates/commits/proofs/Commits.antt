@@ -14,7 +14,7 @@ use Rattle.machine.specs.Table.{View}
 use Rattle.routes.proofs.Level.{levAt-plug, lv-eq, lvs-not, lvs-yes, times}
 use Rattle.routes.proofs.Surgery.{From, Off, Surgery}
 use Rattle.routes.specs.Route.{levAt, lv, rankC}
-use Rattle.trees.proofs.Held.{Carries, ind-le}
+use Rattle.trees.proofs.Held.{Carries, ind-le, root-one}
 use Rattle.trees.proofs.Mirror.{Toward, occ-join}
 use Rattle.trees.proofs.Plug.{ind-same, occ-plug, take-apart}
 use Rattle.trees.specs.Rank.{rank}
@@ -273,10 +273,6 @@ module _ (v : View) (c : Ctx) (b : Bool) (z x y y′ x′ z′ kx ky kz rz rx ry
 renew-held : (v w : View) (s′ : ℕ) (S : Tree) → w s′ ≡ v (root S) → Holds v S → ((T : Tree) → ((s : ℕ) → occ s T ≤ occ s S) → Holds v T → Holds w T) → Holds w (renew s′ S)
 renew-held v w s′ (leaf s k pr rk) e h part = e ∙ h
 renew-held v w s′ (node s k rk l r) e h part = (e ∙ h .0, part l (λ x. omega arith) (h .1), part r (λ x. omega arith) (h .2))
-
-root-one : (v : View) (S : Tree) → Holds v S → v (root S) .state ≡ 1
-root-one v (leaf s k pr rk) h = ap (λ r. r .state) h
-root-one v (node s k rk l r) h = ap (λ r. r .state) (h .0)
 
 module _ (v : View) (c : Ctx) (b : Bool) (p kp rp l kl pl rl s′ : ℕ) (S : Tree) (i : Carries v (plug c (join b p kp rp (leaf l kl pl rl) S))) (free : v s′ .state ≡ 0) where
   abbrev pub four : Tree

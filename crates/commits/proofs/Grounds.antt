@@ -80,6 +80,11 @@ pub data Two (k p kh ph rh : ℕ) : (kl pl rl km pm rm : ℕ) → Type 0 where
   below : k < kh → Two k p kh ph rh k p 0 kh ph rh
   above : kh < k → Two k p kh ph rh kh ph rh k p 0
 
+-- the new one has rank 0, the copy the old one's rank
+pub two-ranks : (k p kh ph rh kl pl rl km pm rm : ℕ) → Two k p kh ph rh kl pl rl km pm rm → ((rl ≡ 0) × (rm ≡ rh)) ⊎ ((rl ≡ rh) × (rm ≡ 0))
+two-ranks k p kh ph rh _ _ _ _ _ _ (below q) = inl (refl, refl)
+two-ranks k p kh ph rh _ _ _ _ _ _ (above q) = inr (refl, refl)
+
 -- "Inner rank 1, or 255 if the leaf was a sentinel."
 abbrev pub InnerRank : ℕ → ℕ → Type 0
 InnerRank rh RK = ((rh ≡ 255) × (RK ≡ 255)) ⊎ ((rh ≡ 0) × (RK ≡ 1))

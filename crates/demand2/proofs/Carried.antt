@@ -1,7 +1,7 @@
 -- THE TREE ALONG A HISTORY: what each call does to the view and its tree, and how a property of them is carried along every history.
 use Prim.Native.Nat.{_*_, _≤_, ℕ}
 use lib.ListN.{length}
-use mathlib.Core.List.{List, [], _∷_}
+use mathlib.Core.List.{List, [], _++_, _∷_}
 use mathlib.Core.Logic.{inl}
 use mathlib.Core.Path.{_≡_, refl, subst, sym}
 use native.Mathlib.Omega.{arith}
@@ -89,6 +89,12 @@ module _ {p : Point} (s : Stands p) where
   pub same-tree : {c : Ask} {l : Left} {a : Account} {t′ : Tree} → Passes s c l a t′ → (s′ : Stands (record { table = l .table; state = l .state; account = a })) → s′ .tree ≡ t′
   same-tree {l = l} {t′ = t′} h s′ =
       one-tree (view (s .n) (l .table)) (s′ .tree) t′ (subst (λ n. Carries (view n (l .table)) (s′ .tree)) (same-slots h s′) (s′ .carries)) (change-carries (change h) (s .carries) (s .shape) .0)
+
+-- calls in two parts
+pub goes-both : (p : Point) (xs ys : List Ask) → goes real p (xs ++ ys) ≡ goes real (goes real p xs) ys
+unfolding goes
+goes-both p [] ys = refl
+goes-both p (x ∷ xs) ys = goes-both (advance real p x) xs ys
 
 -- THE MECHANISM: what holds of the tree of a reset, and is kept by every call, holds of the tree of every point of every history
 module _ (Q : Point → Tree → Type 0) (at-reset : (l n : ℕ) → l ≡ n * 6 → 8 ≤ n → n ≤ 4096 → Q (record { table = emptyTable l; state = freshState; account = opening }) firstTree)

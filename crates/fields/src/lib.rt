@@ -100,7 +100,7 @@ pub fn in_tree(r: Rec) -> bool
     r.state == 1
 }
 
-pub fn is_sentinel(r: Rec) -> bool
+fn is_sentinel(r: Rec) -> bool
     ensures { λ b. ⌜ b ≡ sentinel r ⌝ }
 {
     (r.number == 4294967295) & ((r.rank == 255) & (r.price == 0))

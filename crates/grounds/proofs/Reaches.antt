@@ -11,6 +11,7 @@ use Rattle.machine.specs.Record.{wellFormed, inTree, isLeaf}
 use Rattle.machine.specs.Table.{View, view}
 use Rattle.machine.specs.Reach.{Tree, leaf, node, Reached, hurt, reached, joinLeft, joinRight, reachable, reachFrom, reach}
 use Rattle.machine.proofs.Choice.{if-elim}
+use Rattle.machine.proofs.Marks.{unmarked, unmarked-set, unmarked-all}
 use Rattle.machine.proofs.Reach.{reach-hurt, reach-leaf, reach-inner}
 use Rattle.grounds.specs.Order.{Among}
 use Rattle.grounds.specs.Record.{WellFormed}
@@ -18,7 +19,7 @@ use Rattle.grounds.specs.Ways.{Way, linkOn, Goes, ReachDamaged, not-well
 use Rattle.grounds.proofs.Says.{Denies, denies-not, denies-both, says-struck, unless, says-both, says-eq}
 use Rattle.grounds.proofs.Records.{says-in-tree, says-leaf, says-formed, says-linked}
 use Rattle.grounds.proofs.Lists.{no-longer}
-use Rattle.grounds.proofs.Spans.{unmarked, unmarked-set, unmarked-all, mark-kept, mark-made, fareSlots, Spans, below, bare, two-links, spans-leaf, spans-node}
+use Rattle.grounds.proofs.Spans.{mark-kept, mark-made, fareSlots, Spans, below, bare, two-links, spans-leaf, spans-node}
 
 -- hurt is nothing reached
 abbrev isHurt : Reached → Bool

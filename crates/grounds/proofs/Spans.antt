@@ -1,20 +1,19 @@
 -- What a slot reaches, where the way down ends well: every record is sound, no slot is reached by two ways, the fares are those of the tree.
-use Prim.Native.Nat.{ℕ, zero, suc, _+_, _≤_, _<_}
+use Prim.Native.Nat.{ℕ, _≤_, _<_}
 use mathlib.Core.Path.{_≡_, refl, sym, ap, _∙_}
 use mathlib.Core.Bool.{Bool, true, false}
 use mathlib.Core.List.{List, [], _∷_, _++_}
 use mathlib.Core.Logic.{_⊎_, inl, inr, _≢_}
-use native.Mathlib.Nat.{not-suc-le-zero, le-of-suc-le-suc}
 use native.Mathlib.Omega.{arith}
 use lib.Dec.{eqb}
-use lib.ListN.{length, getD, set, replicate, length-set, length-append}
+use lib.ListN.{length, getD, set, length-set, length-append}
 use lib.Seq.{getD-set-same, getD-set-other}
-use borrow.Author.Tests.{eq-eqb}
 use Rattle.terms.specs.declared.Rec.{Rec}
 use Rattle.machine.specs.Record.{isLeaf, isFare}
 use Rattle.machine.specs.Table.{View, view}
 use Rattle.machine.specs.State.{one}
 use Rattle.machine.specs.Reach.{Tree, leaf, node, reachable, countFares}
+use Rattle.machine.proofs.Marks.{unmarked, unmarked-set}
 use Rattle.machine.proofs.Reach.{reach-unmarked, reach-in}
 use Rattle.grounds.specs.Order.{Among, Twice}
 use Rattle.grounds.specs.Record.{WellFormed}
@@ -22,22 +21,6 @@ use Rattle.grounds.specs.Ways.{Way, linkOn, Goes, Fare}
 use Rattle.grounds.proofs.Says.{Says, says-not, says-both, says-eq}
 use Rattle.grounds.proofs.Records.{says-in-tree, says-leaf, says-sentinel, says-linked}
 use Rattle.grounds.proofs.Lists.{among-left, among-right, among-either, twice-append}
-
--- how many slots have no mark
-unfoldable pub unmarked : List ℕ → ℕ
-unmarked [] = 0
-unmarked (x ∷ xs) = one (eqb x 0) + unmarked xs
-
-pub unmarked-set : (m : List ℕ) (s : ℕ) → s < length m → getD m s 0 ≡ 0 → unmarked m ≡ suc (unmarked (set m s 1))
-unfolding unmarked
-unmarked-set [] s h e = absurd (not-suc-le-zero h)
-unmarked-set (x ∷ xs) zero h e = rw (eq-eqb x 0 e) (omega arith)
-unmarked-set (x ∷ xs) (suc s) h e = let q = unmarked-set xs s (le-of-suc-le-suc h) e in omega arith
-
-pub unmarked-all : (n : ℕ) → unmarked (replicate n 0) ≡ n
-unfolding unmarked
-unmarked-all zero = refl
-unmarked-all (suc n) = let q = unmarked-all n in omega arith
 
 -- one mark more
 pub mark-kept : (m : List ℕ) (s x : ℕ) → s < length m → getD (set m s 1) x 0 ≡ 0 → (x ≢ s) × (getD m x 0 ≡ 0)

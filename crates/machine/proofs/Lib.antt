@@ -6,6 +6,7 @@ pub mod Count
 pub mod Writes
 pub mod Tests
 pub mod Reach
+pub mod Marks
 pub mod Ride
 pub mod DocumentRides
 pub mod OwnRides

@@ -6,7 +6,7 @@ use mathlib.Core.Path.{_∙_, _≡_, ap, refl, subst, sym}
 use native.Mathlib.Omega.{arith}
 use Rattle.commits.proofs.Acts.{Act, Kind, doubles, promotes, puts, puts-in, rotates1, rotates2, settles, takes, takes-out}
 use Rattle.commits.proofs.Forms.{deep, flat, lean, rank-join, renew, turn}
-use Rattle.commits.proofs.Grounds.{InnerRank, Two, above, below}
+use Rattle.commits.proofs.Grounds.{InnerRank, two-ranks}
 use Rattle.commits.proofs.Shape.{Shape, ranked-join, shape-at, shape-limit}
 use Rattle.machine.specs.Allowed.{fib}
 use Rattle.machine.specs.Table.{View}
@@ -43,10 +43,6 @@ share-0 = share-plain 0 (omega arith) ∙ fib-3
 owes-255 : (rl rm : ℕ) → ((rl ≡ 0) × (rm ≡ 255)) ⊎ ((rl ≡ 255) × (rm ≡ 0)) → owes 255 rl rm ≡ 2
 owes-255 rl rm (inl e) = owes-sentinel rl rm ∙ rw (e .0, e .1) (omega (arith, share-0, share-sentinel))
 owes-255 rl rm (inr e) = owes-sentinel rl rm ∙ rw (e .0, e .1) (omega (arith, share-0, share-sentinel))
-
-two-ranks : (k p kh ph rh kl pl rl km pm rm : ℕ) → Two k p kh ph rh kl pl rl km pm rm → ((rl ≡ 0) × (rm ≡ rh)) ⊎ ((rl ≡ rh) × (rm ≡ 0))
-two-ranks k p kh ph rh _ _ _ _ _ _ (below q) = inl (refl, refl)
-two-ranks k p kh ph rh _ _ _ _ _ _ (above q) = inr (refl, refl)
 
 put-phi : (c : Ctx) (h kh ph rh a l m RK kl pl rl km pm rm : ℕ) → rankC c ≤ 255 → RK ≤ rankC c → InnerRank rh RK → ((rl ≡ 0) × (rm ≡ rh)) ⊎ ((rl ≡ rh) × (rm ≡ 0))
     → phi (plug c (node a km RK (leaf l kl pl rl) (leaf m km pm rm))) ≤ phi (plug c (leaf h kh ph rh)) + 2

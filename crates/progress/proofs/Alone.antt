@@ -1,9 +1,10 @@
 -- EVERY OPERATION STEPPED ALONE ends within its budget, on every history.
 use Prim.Native.Nat.{_*_, _≤_, ℕ}
 use lib.ListN.{length}
-use mathlib.Core.List.{List, [], _++_, _∷_}
-use mathlib.Core.Path.{_∙_, _≡_, ap, refl, sym}
+use mathlib.Core.List.{List, _++_}
+use mathlib.Core.Path.{_∙_, _≡_, ap, sym}
 use native.Mathlib.Omega.{arith}
+use Rattle.demand2.proofs.Carried.{goes-both}
 use Rattle.demand2.proofs.Counts.{settling-stored}
 use Rattle.demand2.proofs.Passes.{Passes, begins, looks, passing, refused}
 use Rattle.demand2.proofs.Stands.{Stands}
@@ -11,7 +12,7 @@ use Rattle.demand3.proofs.Demand3.{low, rich, rich-on}
 use Rattle.demand3.proofs.Rich.{Rich}
 use Rattle.demand3.specs.Demand3.{figuresAt}
 use Rattle.history.specs.History.{Ask, begin, step}
-use Rattle.history.specs.Ledger.{Account, Point, advance, goes, history, started}
+use Rattle.history.specs.Ledger.{Account, Point, advance, history, started}
 use Rattle.history.specs.Machine.{real}
 use Rattle.machine.specs.Answers.{numberOf}
 use Rattle.machine.specs.Calls.{beginOf}
@@ -36,11 +37,6 @@ use Rattle.terms.specs.declared.Work.the-variants.{Busy}
 use Rattle.trees.specs.Rank.{height}
 use Rattle.trees.specs.Tree.{Tree}
 use Rattle.undamaged.proofs.NoDamage.{no-17}
-
-goes-both : (p : Point) (xs ys : List Ask) → goes real p (xs ++ ys) ≡ goes real (goes real p xs) ys
-unfolding goes
-goes-both p [] ys = refl
-goes-both p (x ∷ xs) ys = goes-both (advance real p x) xs ys
 
 -- an accepted begin does not raise c
 begun-open : {p : Point} (s : Stands p) (i : ℕ) (o : Operation) (j : Job) {l : Left} {a : Account} {t′ : Tree} → Passes s (begin i o j) l a t′ → numberOf (l .answer) ≡ 0

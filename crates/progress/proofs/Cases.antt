@@ -2,7 +2,7 @@
 use Prim.Native.Nat.{_*_, _+_, _<_, _≤_, suc, ℕ}
 use lib.ListN.{length}
 use mathlib.Core.Bool.{Bool, false, true}
-use mathlib.Core.List.{List, []}
+use mathlib.Core.List.{List}
 use mathlib.Core.Path.{_∙_, _≡_, ap, refl, subst, sym}
 use native.Mathlib.Omega.{arith}
 use Rattle.commits.proofs.Acts.{Act, Kind, levelPut, proper}
@@ -20,7 +20,7 @@ use Rattle.machine.specs.Commit.{Did, calm}
 use Rattle.machine.specs.State.{countOpen, one, taskAt}
 use Rattle.machine.specs.Step.{answered, phaseStep}
 use Rattle.machine.specs.Table.{View, Write, puts}
-use Rattle.progress.proofs.Onward.{next-answer, next-open, next-table, next-task, phase-on, puts-none, same-sight, task-ok}
+use Rattle.progress.proofs.Onward.{answer-is, next-open, next-table, phase-on, same-sight, table-same, task-is, task-ok}
 use Rattle.progress.proofs.Sees.{Goes-On, Onward, Sees}
 use Rattle.progress.proofs.Work.{settle-work}
 use Rattle.progress.specs.Alone.{answerOf}
@@ -63,8 +63,12 @@ pub data Case {p : Point} (s : Stands p) (i : ℕ) (j : Job) (f : Phase) (d : �
   settles-now : goalOf f ≡ Settle → answerOf real p i ≡ 0 → taskAt (advance real p (step i) .state) i .work ≡ Busy j (Start Settle)
       → ((s′ : Stands (advance real p (step i))) → suc (work 255 (s′ .tree)) ≤ work 255 (s .tree)) → countOpen (advance real p (step i) .state) ≡ countOpen (p .state) → Case s i j f d
 
-pub same-phase : (j : Job) (f f′ : Phase) → busy j f ≡ busy j f′ → f ≡ f′
+same-phase : (j : Job) (f f′ : Phase) → busy j f ≡ busy j f′ → f ≡ f′
 same-phase j f f′ e = let z : Busy j f ≡ Busy j f′ = ap (λ (k : Task). k .work) e in cc
+
+-- a step that goes on keeps the goal
+pub goal-kept : {v : View} {t : Tree} {j : Job} {f : Phase} {k : Task} (f′ : Phase) → Quiet v t j f (Next k) → k ≡ busy j f′ → goalOf f′ ≡ goalOf f
+goal-kept {j = j} f′ (moves-on f″ g ok mv) ek = ap goalOf (sym (same-phase j f″ f′ ek)) ∙ g
 
 module _ {p : Point} (s : Stands p) (top : rank (s .tree) ≡ 255) (i : ℕ) (lt : i < 8) (j : Job) (f : Phase) (is : taskAt (p .state) i .work ≡ Busy j f) (d : ℕ) (sees : Sees (viewAt s) (s .tree) f d) where
   abbrev v : View
@@ -95,30 +99,18 @@ module _ {p : Point} (s : Stands p) (top : rank (s .tree) ≡ 255) (i : ℕ) (lt
       let o : 1 ≤ occ (r .x) (s .tree) = subst (λ y. 1 ≤ occ (r .x) y) same-tree (omega (arith, r .level lp .0, levAt-le 255 (r .x) t′)) in
       omega (arith, in-tree v (s .tree) (r .x) (s .carries) o, r .free)
 
-  answer-is : (a : Turn) → did .turn ≡ a → answerOf real p i ≡ numberOf (answered a)
-  answer-is a e = next-answer s i lt j f is ∙ ap (λ y. numberOf (answered y)) e
-
-  task-is : (a : Turn) → did .turn ≡ a → taskAt (after-step .state) i .work ≡ taskAfter a (busy j f) .work
-  task-is a e = next-task s i lt j f is ∙ ap (λ y. taskAfter y (busy j f) .work) e
-
   by-turn : (a : Turn) → did ≡ calm a → Quiet v (s .tree) j f a → Onward v (s .tree) j f d a → Case s i j f d
-  by-turn Hurt e q h = let turn = ap (λ (x : Did). x .turn) e in hurt h (answer-is Hurt turn) (task-is Hurt turn)
-  by-turn (Done a) e q h = let turn = ap (λ (x : Did). x .turn) e in ended a q (answer-is (Done a) turn) (task-is (Done a) turn)
+  by-turn Hurt e q h = let turn = ap (λ (x : Did). x .turn) e in hurt h (answer-is s i lt j f is Hurt turn) (task-is s i lt j f is Hurt turn)
+  by-turn (Done a) e q h = let turn = ap (λ (x : Did). x .turn) e in ended a q (answer-is s i lt j f is (Done a) turn) (task-is s i lt j f is (Done a) turn)
   by-turn (Next k) e q (f′, d′, ek, st, se, le) =
       let turn = ap (λ (x : Did). x .turn) e in
-      onward f′ d′ (answer-is (Next k) turn) (next-table s i lt j f is ∙ nothing (ap (λ (x : Did). x .writes) e)) (task-is (Next k) turn ∙ ap (λ (x : Task). x .work) ek) (goal q ek) st se le (open-on turn ek (goal q ek))
+      onward f′ d′ (answer-is s i lt j f is (Next k) turn) (table-same s i lt j f is (ap (λ (x : Did). x .writes) e)) (task-is s i lt j f is (Next k) turn ∙ ap (λ (x : Task). x .work) ek) (goal-kept f′ q ek) st se le (open-on turn ek (goal-kept f′ q ek))
     where
-      nothing : {ws : List Write} → ws ≡ [] → puts (p .table) ws ≡ p .table
-      nothing e = ap (puts (p .table)) e ∙ puts-none (p .table)
-
       open-on : {k : Task} → did .turn ≡ Next k → k ≡ busy j f′ → goalOf f′ ≡ goalOf f → countOpen (after-step .state) ≡ countOpen (p .state)
       open-on {k} turn ek g =
           let o = next-open s i lt j f is k turn in
           let a : one (workSettles (k .work)) ≡ one (goalSettles (goalOf f)) = ap (λ (x : Task). one (workSettles (x .work))) ek ∙ ap (λ y. one (goalSettles y)) g in
           omega arith
-
-      goal : {k : Task} → Quiet v (s .tree) j f (Next k) → k ≡ busy j f′ → goalOf f′ ≡ goalOf f
-      goal (moves-on f″ g ok mv) ek = ap goalOf (sym (same-phase j f″ f′ ek)) ∙ g
 
   -- a put-in that goes on to settle: c is one more
   put-open : (b : Bool) → did .turn ≡ turnOfPut j b → goalOf f ≡ Serve PutIn → b ≡ true → countOpen (after-step .state) ≡ countOpen (p .state) + 1
@@ -133,11 +125,11 @@ module _ {p : Point} (s : Stands p) (top : rank (s .tree) ≡ 255) (i : ℕ) (lt
   by-does _ e (rests a q) h = by-turn a e q (h refl)
   by-does _ e (put-commits b ws lim g ch) h =
       let turn = ap (λ (x : Did). x .turn) e in
-      puts-now b g (answer-is (turnOfPut j b) turn) (task-is (turnOfPut j b) turn) (λ eb same. put-changes ws (ap (λ (x : Did). x .writes) e) (ch .act) (ch .level ∙ eb) same) (put-open b turn g)
-  by-does _ e (take-commits ws g ch) h = let turn = ap (λ (x : Did). x .turn) e in takes-now g (answer-is (Done TakenOut) turn) (task-is (Done TakenOut) turn)
+      puts-now b g (answer-is s i lt j f is (turnOfPut j b) turn) (task-is s i lt j f is (turnOfPut j b) turn) (λ eb same. put-changes ws (ap (λ (x : Did). x .writes) e) (ch .act) (ch .level ∙ eb) same) (put-open b turn g)
+  by-does _ e (take-commits ws g ch) h = let turn = ap (λ (x : Did). x .turn) e in takes-now g (answer-is s i lt j f is (Done TakenOut) turn) (task-is s i lt j f is (Done TakenOut) turn)
   by-does _ e (settle-commits ws g ch) h =
       let turn = ap (λ (x : Did). x .turn) e in
-      settles-now g (answer-is (Next (busy j (Start Settle))) turn) (task-is (Next (busy j (Start Settle))) turn)
+      settles-now g (answer-is s i lt j f is (Next (busy j (Start Settle))) turn) (task-is s i lt j f is (Next (busy j (Start Settle))) turn)
       (λ s′. rw (tree-after ws (ap (λ (x : Did). x .writes) e) (ch .act) s′) (settle-work (ch .act) (s .shape)))
       (let o = next-open s i lt j f is (busy j (Start Settle)) turn in let a : one (goalSettles (goalOf f)) ≡ 1 = ap (λ y. one (goalSettles y)) g in omega arith)
 

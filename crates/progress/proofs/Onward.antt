@@ -1,8 +1,8 @@
 -- ONE STEP of a task that left the entry in the table as it is.
 use Prim.Native.Nat.{_+_, _<_, ℕ}
-use borrow.Author.Tests.{le-ltb, lt-ltb}
+use borrow.Author.Tests.{le-ltb}
 use lib.ListN.{length}
-use mathlib.Core.Bool.{Bool, true}
+use mathlib.Core.Bool.{Bool}
 use mathlib.Core.List.{List, []}
 use mathlib.Core.Path.{_∙_, _≡_, ap, refl, subst}
 use native.Mathlib.Omega.{arith}
@@ -18,8 +18,7 @@ use Rattle.history.specs.Machine.{real}
 use Rattle.machine.specs.Answers.{numberOf}
 use Rattle.machine.specs.Choice.{ifB}
 use Rattle.machine.specs.Commit.{Did}
-use Rattle.machine.specs.Record.{numberFits, priceFits}
-use Rattle.machine.specs.State.{countOpen, jobFits, one, settling, taskAt}
+use Rattle.machine.specs.State.{countOpen, one, settling, taskAt}
 use Rattle.machine.specs.Step.{Left, answered, carried, phaseStep, stepOf, stepWork, turned}
 use Rattle.machine.specs.Table.{View, puts}
 use Rattle.progress.proofs.Readings.{put-on, settle-on, take-on}
@@ -40,6 +39,7 @@ use Rattle.trees.proofs.Held.{Carries}
 use Rattle.trees.proofs.OneTree.{one-tree}
 use Rattle.trees.specs.Rank.{rank}
 use Rattle.trees.specs.Tree.{Tree}
+use Rattle.undamaged.proofs.NoDamage.{fits-job}
 
 pub phase-on : (n : ℕ) (v : View) (t : Tree) → Carries v t → Shape t → Bounded n v → rank t ≡ 255 → (m : ℕ) (j : Job) → j .number < 1000000 → (f : Phase) (d : ℕ) → Sees v t f d
     → Goes-On v t j f d (phaseStep v n m j f)
@@ -49,14 +49,6 @@ phase-on n v t i sh b top m j lt (Walk g q) d s = λ z. walk-on n v t i sh b top
 phase-on n v t i sh b top m j lt (PuttingIn q x) d s = put-on n v t i sh b j m q x d s
 phase-on n v t i sh b top m j lt (TakingOut q x) d s = take-on n v t i sh b j q x d s
 phase-on n v t i sh b top m j lt (Settling q x) d s = settle-on n v t i sh b j q x d s
-
-fits-job : (j : Job) → j .number < 1000000 → j .price < 100000 → jobFits j ≡ true
-unfolding jobFits numberFits priceFits
-fits-job j a b = rw (lt-ltb (j .number) 1000000 a, lt-ltb (j .price) 100000 b) refl
-
-pub puts-none : (t : List ℕ) → puts t [] ≡ t
-unfolding puts
-puts-none t = refl
 
 -- where a history stands, of a busy task i
 module _ {p : Point} (s : Stands p) (i : ℕ) (lt : i < 8) (j : Job) (f : Phase) (is : taskAt (p .state) i .work ≡ Busy j f) where
@@ -79,9 +71,17 @@ module _ {p : Point} (s : Stands p) (i : ℕ) (lt : i < 8) (j : Job) (f : Phase)
   unfolding advance carried
   next-table = ap (λ (l : Left). l .table) step-is
 
-  pub next-answer : answerOf real p i ≡ numberOf (answered (d .turn))
+  -- without a write the table stays
+  pub table-same : d .writes ≡ [] → next .table ≡ p .table
+  unfolding puts
+  table-same e = next-table ∙ ap (puts (p .table)) e
+
+  next-answer : answerOf real p i ≡ numberOf (answered (d .turn))
   unfolding carried
   next-answer = ap (λ (l : Left). numberOf (l .answer)) step-is
+
+  pub answer-is : (a : Turn) → d .turn ≡ a → answerOf real p i ≡ numberOf (answered a)
+  answer-is a e = next-answer ∙ ap (λ y. numberOf (answered y)) e
 
   -- c after it: one less if the task settled, one more if it settles
   pub next-open : (k : Task) → d .turn ≡ Next k → countOpen (next .state) + one (goalSettles (goalOf f)) ≡ countOpen (p .state) + one (workSettles (k .work))
@@ -91,7 +91,7 @@ module _ {p : Point} (s : Stands p) (i : ℕ) (lt : i < 8) (j : Job) (f : Phase)
       let old : one (workSettles (taskAt (p .state) i .work)) ≡ one (goalSettles (goalOf f)) = ap (λ w. one (workSettles w)) is in
       omega (arith, ap (λ (x : State). x .u + settling (x .tasks) 8) st, old, settling-stored (p .state .tasks) i k 8 (omega (arith, s .eight)) lt)
 
-  pub next-task : taskAt (next .state) i .work ≡ taskAfter (d .turn) (busy j f) .work
+  next-task : taskAt (next .state) i .work ≡ taskAfter (d .turn) (busy j f) .work
   unfolding advance carried
   next-task = ap (λ (l : Left). taskAt (l .state) i .work) step-is ∙ stored (d .turn) (d .committed)
     where
@@ -99,6 +99,9 @@ module _ {p : Point} (s : Stands p) (i : ℕ) (lt : i < 8) (j : Job) (f : Phase)
       stored Hurt c = is
       stored (Next k) c = ap (λ (k : Task). k .work) (stored-here (p .state .tasks) i k idleTask (omega (arith, s .eight)))
       stored (Done a) c = ap (λ (k : Task). k .work) (stored-here (p .state .tasks) i idleTask idleTask (omega (arith, s .eight)))
+
+  pub task-is : (a : Turn) → d .turn ≡ a → taskAt (next .state) i .work ≡ taskAfter a (busy j f) .work
+  task-is a e = next-task ∙ ap (λ y. taskAfter y (busy j f) .work) e
 
 -- two points with the same table stand on the same tree
 pub same-sight : {p p′ : Point} (s : Stands p) (s′ : Stands p′) → p′ .table ≡ p .table → (s′ .tree ≡ s .tree) × (viewAt s′ ≡ viewAt s)

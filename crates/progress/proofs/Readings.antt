@@ -38,6 +38,7 @@ use Rattle.terms.specs.declared.Turn.{Turn}
 use Rattle.terms.specs.declared.Turn.the-variants.{Done, Hurt, Next}
 use Rattle.trees.proofs.Held.{Carries}
 use Rattle.trees.specs.Tree.{Tree}
+use Rattle.undamaged.proofs.Puts.{and-true}
 use Rattle.undamaged.proofs.Records.{below-facts, tree-formed}
 use Rattle.undamaged.proofs.Walks.{inner-links, true-false}
 use Rattle.views.specs.Update.{link}
@@ -50,12 +51,8 @@ still-is : (r : Rec) (a : Links) → r .state ≡ 1 → a ≡ linksOf r → stil
 unfolding still
 still-is r a one e = rw (e, in-tree-is r one, eq-eqb (r .left) (r .left) refl, eq-eqb (r .right) (r .right) refl) refl
 
-all-of : (a b : Bool) → a ≡ true → b ≡ true → (a && b) ≡ true
-all-of true b e f = f
-all-of false b e f = e
-
 over-is : (v : View) (a s : ℕ) → Over v a s → (inTree (v a) && leads (linksOf (v a)) s) ≡ true
-over-is v a s o = all-of _ _ (in-tree-is (v a) (o .0)) (o .1)
+over-is v a s o = and-true _ _ (in-tree-is (v a) (o .0)) (o .1)
 
 module _ (n : ℕ) (v : View) (t : Tree) (i : Carries v t) (sh : Shape t) (b : Bounded n v) (j : Job) where
   -- ---- a reading, and a commit after its test
@@ -92,7 +89,7 @@ module _ (n : ℕ) (v : View) (t : Tree) (i : Carries v t) (sh : Shape t) (b : B
   put-on m q (PutLeaf a) D (o, s, e) =
       λ z. reads (PuttingIn q (PutLeaf a)) (PuttingIn q (PutCommit a (linksOf (v (q .here))))) D 1 _ _ (v (q .here)) refl (in-tree-is (v (q .here)) (o .1)) refl refl (o, (s, refl), refl) (omega arith)
   put-on m q (PutCommit a c) D (o, s, e) =
-      tested (PuttingIn q (PutCommit a c)) D refl _ _ _ (all-of _ _ (still-is (v (q .parent)) a (o .0 .0) (s .0)) (still-is (v (q .here)) c (o .1) (s .1)))
+      tested (PuttingIn q (PutCommit a c)) D refl _ _ _ (and-true _ _ (still-is (v (q .parent)) a (o .0 .0) (s .0)) (still-is (v (q .here)) c (o .1) (s .1)))
       (put-stops n v j m q _ _ _)
 
   -- ---- take-out
@@ -132,9 +129,9 @@ module _ (n : ℕ) (v : View) (t : Tree) (i : Carries v t) (sh : Shape t) (b : B
       (o, (s .0, s .1, s .2, s .3, refl, one), refl) (omega arith)
   take-on q (TakeCommit a c d x) D (o, s, e) =
       tested (TakingOut q (TakeCommit a c d x)) D refl _ _ _
-      (all-of _ _ (still-is (v (q .grand)) a (o .0 .0) (s .0))
-      (all-of _ _ (still-is (v (q .parent)) c (o .1 .0 .0) (s .1))
-      (all-of _ _ (still-is (v (c .left)) d (s .3) (s .2)) (still-is (v (c .right)) x (s .5) (s .4)))))
+      (and-true _ _ (still-is (v (q .grand)) a (o .0 .0) (s .0))
+      (and-true _ _ (still-is (v (q .parent)) c (o .1 .0 .0) (s .1))
+      (and-true _ _ (still-is (v (c .left)) d (s .3) (s .2)) (still-is (v (c .right)) x (s .5) (s .4)))))
       (take-stops n v j q _ _ _)
 
   -- ---- settling
@@ -143,11 +140,11 @@ module _ (n : ℕ) (v : View) (t : Tree) (i : Carries v t) (sh : Shape t) (b : B
   module _ (q : Path) (o : Three v q) where
     test-two : (a c : Links) → a ≡ linksOf (v (q .grand)) → c ≡ linksOf (v (q .parent)) → testTwo a c (v (q .grand)) (v (q .parent)) ≡ true
     unfolding testTwo
-    test-two a c e g = all-of _ _ (still-is (v (q .grand)) a (o .0 .0) e) (still-is (v (q .parent)) c (o .1 .0 .0) g)
+    test-two a c e g = and-true _ _ (still-is (v (q .grand)) a (o .0 .0) e) (still-is (v (q .parent)) c (o .1 .0 .0) g)
 
     test-three : (a c d : Links) → a ≡ linksOf (v (q .grand)) → c ≡ linksOf (v (q .parent)) → d ≡ linksOf (v (q .here)) → testThree a c d (v (q .grand)) (v (q .parent)) (v (q .here)) ≡ true
     unfolding testThree
-    test-three a c d e g h = all-of _ _ (test-two a c e g) (still-is (v (q .here)) d (o .1 .1) h)
+    test-three a c d e g h = and-true _ _ (test-two a c e g) (still-is (v (q .here)) d (o .1 .1) h)
 
     -- x leads to y
     y-link : (a c d : Links) → d ≡ linksOf (v (q .here)) → aroundOf q a c d .y ≡ link (not (eqb (c .left) (q .here))) (v (q .here))
@@ -186,7 +183,7 @@ module _ (n : ℕ) (v : View) (t : Tree) (i : Carries v t) (sh : Shape t) (b : B
       (λ w. tested f D refl _ _ _ (test-three q o a c d (s .0) (s .1) (s .2)) (promote-stops n v j _ q a c _)))
   settle-on q (SettleDouble a c d x) D (o, s, e) =
       let f = Settling q (SettleDouble a c d x) in
-      let test = all-of _ _ (test-three q o a c d (s .0) (s .1) (s .2)) (still-is (v (aroundOf q a c d .y)) x (s .4) (s .3)) in
+      let test = and-true _ _ (test-three q o a c d (s .0) (s .1) (s .2)) (still-is (v (aroundOf q a c d .y)) x (s .4) (s .3)) in
       if-elim (Goes-On v t j f D) _ (λ y. hurts-on f D refl)
       (λ y. if-elim (Goes-On v t j f D) _
       (λ w. if-elim (Goes-On v t j f D) _ (λ u. hurts-on f D refl)

@@ -30,7 +30,7 @@ use Rattle.terms.specs.declared.TakeStage.{TakeStage}
 use Rattle.terms.specs.declared.TakeStage.the-variants.{TakeCommit, TakeGrand, TakeLeft, TakeParent, TakeRight}
 use Rattle.terms.specs.declared.Turn.{Turn}
 use Rattle.terms.specs.declared.Turn.the-variants.{Done, Hurt, Next}
-use Rattle.trees.proofs.Held.{Carries, at-place, occC-entry, root-occ, zero-out}
+use Rattle.trees.proofs.Held.{Carries, at-place, occC-entry, root-occ, root-one, zero-out}
 use Rattle.trees.proofs.Plug.{ind-same, occ-plug}
 use Rattle.trees.specs.Rank.{height}
 use Rattle.trees.specs.Tree.{Ctx, Holds, HoldsC, Tree, hole, join, leaf, leafRec, node, occ, parent, plug, pside, root, top}
@@ -171,10 +171,6 @@ pub place-pos : (v : View) (c : Ctx) (u : Tree) → Carries v (plug c u) → roo
 place-pos v c u i e =
     let z : 1 ≤ occ 0 u = subst (λ y. 1 ≤ occ y u) e (root-occ u) in
     omega (arith, occ-plug 0 c u, zero-out v (plug c u) i, ind-same 0, occC-entry c)
-
-root-one : (v : View) (u : Tree) → Holds v u → v (root u) .state ≡ 1
-root-one v (leaf s k pr rk) h = ap (λ r. r .state) h
-root-one v (node s k rk l r) h = ap (λ r. r .state) (h .0)
 
 pub leaf-is : (v : View) (u : Tree) → Holds v u → isLeaf (v (root u)) ≡ false → 1 ≤ height u
 unfolding isLeaf

@@ -1,12 +1,13 @@
 -- NO WALK IS LONGER than the table has slots, whatever the table holds: a way that comes to an end passes no slot twice.
 use Prim.Native.Nat.{_<_, _≤_, suc, zero, ℕ}
-use lib.ListN.{List·getD-eq-default, getD, getD-replicate, length, length-replicate, length-set, replicate, set}
+use lib.ListN.{getD, length, length-replicate, length-set, replicate, set}
 use lib.Seq.{getD-set-other}
 use mathlib.Core.List.{List}
 use mathlib.Core.Logic.{_⊎_, inl, inr}
 use mathlib.Core.Path.{_≡_, _∙_, ap, refl, sym, subst}
 use native.Mathlib.Omega.{arith}
-use Rattle.grounds.proofs.Spans.{unmarked, unmarked-all, unmarked-set}
+use Rattle.demand2.proofs.Counts.{all-alike}
+use Rattle.machine.proofs.Marks.{unmarked, unmarked-all, unmarked-set}
 use Rattle.machine.specs.Table.{View, view}
 use Rattle.routes.specs.Route.{next}
 use Rattle.machine.specs.Record.{freeRec}
@@ -49,20 +50,13 @@ module _ (v : View) (k : ℕ) where
         still b o = getD-set-other m a b 1 0 (λ x. not-again a l w (subst (On (next v k a) l) x o)) ∙ clear b (inr o)
 
     walked-slots : (l a : ℕ) → Walked v k a l → l ≤ n
-    walked-slots l a w = omega (arith, by-marks l a zeros long w (λ b o. none b), unmarked-all n)
+    walked-slots l a w = omega (arith, by-marks l a zeros long w (λ b o. all-alike n b 0), unmarked-all n)
       where
         zeros : List ℕ
         zeros = replicate n 0
 
         long : length zeros ≡ n
         long = length-replicate n 0
-
-        none : (b : ℕ) → getD zeros b 0 ≡ 0
-        none b =
-            elim (in-or-out b n) [
-              | inl h ↦ getD-replicate n b 0 0 h
-              | inr h ↦ List·getD-eq-default zeros 0 (omega (arith, long))
-            ]
 
 -- a slot with a link is in the table
 linked-inside : (n : ℕ) (t : List ℕ) (k x : ℕ) → (next (view n t) k x ≡ 0 → ⊥) → x < n

@@ -6,7 +6,7 @@ use mathlib.Core.Path.{_≡_, ap, refl, sym}
 use native.Mathlib.Omega.{arith}
 use Rattle.commits.proofs.Acts.{Act, Kind, doubles, levelPut, promotes, puts, puts-in, rotates1, rotates2, settles, takes, takes-out}
 use Rattle.commits.proofs.Forms.{deep, flat, lean, rank-join, renew, turn}
-use Rattle.commits.proofs.Grounds.{InnerRank, Two, above, below}
+use Rattle.commits.proofs.Grounds.{InnerRank, two-ranks}
 use Rattle.commits.proofs.Shape.{Shape, ranked-join, shape-at}
 use Rattle.machine.specs.Table.{View}
 use Rattle.progress.specs.Work.{addsTo, takesOff, weight, work, workC}
@@ -102,10 +102,6 @@ put-top q RK rh r = go (lv q RK) refl
     go : (b : Bool) → lv q RK ≡ b → weight q RK ≤ addsTo b
     go true e = elim r [ inl h ↦ (let z : weight q RK ≡ 0 = rw (h .1) (weight-top q) in omega arith) | inr h ↦ omega (arith, weight-le q RK, h .1) ]
     go false e = omega (arith, weight-not q RK (λ y. let z : _≡_ {A = ℕ} 0 1 = cc in omega arith))
-
-two-ranks : (k p kh ph rh kl pl rl km pm rm : ℕ) → Two k p kh ph rh kl pl rl km pm rm → ((rl ≡ 0) × (rm ≡ rh)) ⊎ ((rl ≡ rh) × (rm ≡ 0))
-two-ranks k p kh ph rh _ _ _ _ _ _ (below q) = inl (refl, refl)
-two-ranks k p kh ph rh _ _ _ _ _ _ (above q) = inr (refl, refl)
 
 pub act-work : {v w : View} {kind : Kind} {t t′ : Tree} (act : Act v kind t w t′) → Shape t → work 255 t′ + takesOff kind ≤ work 255 t + addsTo (levelPut act)
 act-work (puts c k p h kh ph rh a l m RK kl pl rl km pm rm fa fl fm al lm r two fits on) f =

@@ -34,7 +34,7 @@ ghost use Rattle.machine.specs.Table.{view, puts};
 ghost use Rattle.machine.specs.PutIn.{leafOf, innerOf, innerRank, putGrounds, putTest, fiveWrites, putWrites, putTurn, putRoom, putLimit, putCommit, readPutParent, readPutLeaf, putStep};
 
 // The grounds of 17 that the commit looks at before its test.
-pub fn put_grounds(n: u32, j: Job, q: Path, a: Links, p: Rec, h: Rec) -> bool
+fn put_grounds(n: u32, j: Job, q: Path, a: Links, p: Rec, h: Rec) -> bool
     ensures { λ b. ⌜ b ≡ putGrounds n j q a p h ⌝ }
 {
     let other = is_leaf(h) & (h.number != j.number);
@@ -42,14 +42,14 @@ pub fn put_grounds(n: u32, j: Job, q: Path, a: Links, p: Rec, h: Rec) -> bool
     well_formed(n, q.parent, p) & (is_linked(n, q.here, h) & apart)
 }
 
-pub fn put_test(a: Links, b: Links, p: Rec, h: Rec) -> bool
+fn put_test(a: Links, b: Links, p: Rec, h: Rec) -> bool
     ensures { λ r. ⌜ r ≡ putTest a b p h ⌝ }
 {
     is_still(p, a) & is_still(h, b)
 }
 
 // A fresh leaf: a fare's, or a sentinel's.
-pub fn leaf_of(number: u32, price: u32) -> Rec
+fn leaf_of(number: u32, price: u32) -> Rec
     ensures { λ r. ⌜ r ≡ leafOf number price ⌝ }
 {
     if number == 4294967295 {
@@ -87,7 +87,7 @@ pub fn inner_of(number: u32, rank: u32, left: u32, right: u32) -> Rec
 }
 
 // The rank of the new inner record.
-pub fn inner_rank(h: Rec) -> u32
+fn inner_rank(h: Rec) -> u32
     ensures { λ r. ⌜ r ≡ innerRank h ⌝ }
 {
     if h.rank == 255 {
@@ -97,7 +97,7 @@ pub fn inner_rank(h: Rec) -> u32
 }
 
 // How the task goes on after its put-in.
-pub fn put_turn(j: Job, p: Rec, h: Rec) -> Turn
+fn put_turn(j: Job, p: Rec, h: Rec) -> Turn
     ensures { λ a. ⌜ a ≡ putTurn j p h ⌝ }
 {
     if (p.rank == 1) & (inner_rank(h) == 1) {
@@ -163,7 +163,7 @@ fn put_limit(t: &mut [u32], n: u32, m: u32, j: Job, q: Path, left: bool, p: Rec,
 }
 
 // The commit of a put-in.
-pub fn put_commit(t: &mut [u32], n: u32, m: u32, j: Job, q: Path, a: Links, b: Links) -> Outcome
+fn put_commit(t: &mut [u32], n: u32, m: u32, j: Job, q: Path, a: Links, b: Links) -> Outcome
     requires { ⌜ Sized (now t) n ⌝ }
     ensures { λ r. ⌜ acted (now (t .exit)) r ≡ played (now (t .entry)) (putCommit (view n (now (t .entry))) n m j q a b) ⌝ }
 {
@@ -179,7 +179,7 @@ pub fn put_commit(t: &mut [u32], n: u32, m: u32, j: Job, q: Path, a: Links, b: L
 }
 
 // The reading of the parent.
-pub fn read_put_parent(n: u32, j: Job, q: Path, p: Rec) -> Turn
+fn read_put_parent(n: u32, j: Job, q: Path, p: Rec) -> Turn
     ensures { λ a. ⌜ a ≡ readPutParent n j q p ⌝ }
 {
     let good = in_tree(p) & lead_to(links_of(p), q.here);
@@ -192,7 +192,7 @@ pub fn read_put_parent(n: u32, j: Job, q: Path, p: Rec) -> Turn
 }
 
 // The reading of the leaf.
-pub fn read_put_leaf(n: u32, j: Job, q: Path, a: Links, h: Rec) -> Turn
+fn read_put_leaf(n: u32, j: Job, q: Path, a: Links, h: Rec) -> Turn
     ensures { λ b. ⌜ b ≡ readPutLeaf n j q a h ⌝ }
 {
     read_record(

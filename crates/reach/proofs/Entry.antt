@@ -12,10 +12,9 @@ use Rattle.machine.specs.Record.{wellFormed, inTree}
 use Rattle.machine.specs.Table.{view}
 use Rattle.machine.specs.Reach.{reach}
 use Rattle.machine.proofs.Tests.{both-first, formed-in}
+use Rattle.machine.proofs.Marks.{unmarked, unmarked-set, unmarked-all}
 use Rattle.reach.specs.declared.Below.{Below}
-use Rattle.reach.specs.Marks.{unmarked}
 use Rattle.reach.specs.Down.{lostBelow, Down, All}
-use Rattle.reach.proofs.Marks.{unmarked-set, unmarked-all}
 
 module _
     (n : ℕ) (t marks : List ℕ) (em : marks ≡ replicate n 0) (e : Rec) (ee : e ≡ view n t 0)

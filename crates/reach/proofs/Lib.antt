@@ -1,4 +1,3 @@
-pub mod Marks
 pub mod Joins
 pub mod Rows
 pub mod Entry

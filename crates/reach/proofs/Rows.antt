@@ -13,10 +13,9 @@ use Rattle.machine.specs.Record.{isLeaf, linked, inTree, level, isFare}
 use Rattle.machine.specs.Table.{view}
 use Rattle.machine.specs.Reach.{joinLeft, reachable, reachFrom, larger}
 use Rattle.machine.proofs.Reach.{reach-hurt, reach-leaf, reach-inner, reach-unmarked, reach-in}
+use Rattle.machine.proofs.Marks.{unmarked, unmarked-set}
 use Rattle.reach.specs.declared.Below.{Below}
-use Rattle.reach.specs.Marks.{unmarked}
 use Rattle.reach.specs.Down.{lostBelow, leafBelow, innerBelow, Tells, Down}
-use Rattle.reach.proofs.Marks.{unmarked-set}
 use Rattle.reach.proofs.Joins.{one-most, larger-most, deeper-most, leaf-told, tells-left-lost, tells-right-lost, tells-inner}
 
 module _

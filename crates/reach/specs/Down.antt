@@ -8,8 +8,8 @@ use Rattle.machine.specs.Record.{level, isFare}
 use Rattle.machine.specs.Table.{View}
 use Rattle.machine.specs.State.{one}
 use Rattle.machine.specs.Reach.{Tree, Reached, hurt, reached, reachFrom, reach, levels, countFares, depth, heightOf, larger, deeper}
+use Rattle.machine.proofs.Marks.{unmarked}
 use Rattle.reach.specs.declared.Below.{Below}
-use Rattle.reach.specs.Marks.{unmarked}
 use Rattle.reach.specs.Tree.{size}
 
 -- damage was met, and so many slots are not marked

@@ -1,4 +1,3 @@
-pub mod Marks
 pub mod Tree
 pub mod Down
 pub mod Writing

@@ -21,7 +21,7 @@ ghost use Rattle.machine.specs.Table.{view, puts};
 ghost use Rattle.machine.specs.Reach.{larger, deeper};
 ghost use Rattle.machine.specs.State.{one};
 ghost use Rattle.machine.specs.Calls.{sweep};
-ghost use Rattle.reach.specs.Marks.{unmarked};
+ghost use Rattle.machine.proofs.Marks.{unmarked};
 ghost use Rattle.reach.specs.Down.{lostBelow, leafBelow, innerBelow, Down, All};
 ghost use Rattle.reach.specs.Tree.{treeFrom};
 ghost use Rattle.reach.specs.Writing.{swept, Line, RoomFor, Wrote};

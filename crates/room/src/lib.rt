@@ -10,7 +10,7 @@ ghost use Rattle.machine.specs.Table.{view, free, countFree, slot1};
 ghost use Rattle.room.specs.Found.{Found, TwoSlots, ThreeSlots};
 
 // The lowest free slot from a slot on; at or past the end there is none.
-pub fn free_from(t: &[u32], n: u32, from: u32) -> u32
+fn free_from(t: &[u32], n: u32, from: u32) -> u32
     requires { ⌜ Sized (now t) n × (from ≤ 8195) ⌝ }
     ensures { λ s. ⌜ Found (view n (now (t .entry))) n from s ⌝ }
 {

@@ -74,7 +74,7 @@ pub fn is_double(row: LevelRow) -> bool
 }
 
 // An inner record that leads to `near` on x's side and to `far` on the other.
-pub fn sided_record(side: bool, number: u32, rank: u32, near: u32, far: u32) -> Rec
+fn sided_record(side: bool, number: u32, rank: u32, near: u32, far: u32) -> Rec
     ensures { λ r. ⌜ r ≡ sided side number rank near far ⌝ }
 {
     if side {
@@ -84,7 +84,7 @@ pub fn sided_record(side: bool, number: u32, rank: u32, near: u32, far: u32) -> 
 }
 
 // The link on a side: true is left.
-pub fn link_at(side: bool, a: Links) -> u32
+fn link_at(side: bool, a: Links) -> u32
     ensures { λ r. ⌜ r ≡ linkAt side a ⌝ }
 {
     if side {

@@ -66,7 +66,7 @@ pub fn job_fits(j: Job) -> bool
     (j.number < 1000000) & (j.price < 100000)
 }
 
-pub fn may_price(o: Operation) -> bool
+fn may_price(o: Operation) -> bool
     ensures { λ b. ⌜ b ≡ mayPrice o ⌝ }
 {
     match o {

@@ -15,12 +15,12 @@ use Rattle.machine.specs.Commit.{Did, calm}
 use Rattle.machine.specs.Reach.{levels}
 use Rattle.machine.specs.Record.{leads, level, linked, linksOf, other, still, wellFormed}
 use Rattle.machine.specs.Rows.{aroundOf, doubleWrites, linkAt, rotateWrites}
-use Rattle.machine.specs.Settling.{chooseBy, chooseFormed, chooseStep, commitFour, commitThree, commitTwo, doubleBy, doubleDo, doubleFirst, doubleStep, doubleTurn, groundsFour, groundsThree, groundsTwo, isWider, promoteBy, promoteDo, readGrand, readOn, readParent, rotateBy, rotateDo, rotateFirst, rotateOn, rotateStep, rotateTurn, rotateTwoDo, settleStep, testFour, testThree, testTwo, turnFormed}
+use Rattle.machine.specs.Settling.{chooseBy, chooseFormed, chooseStep, commitFour, commitThree, commitTwo, doubleBy, doubleDo, doubleFirst, doubleStep, doubleTurn, groundsFour, groundsThree, groundsTwo, promoteBy, promoteDo, readGrand, readOn, readParent, rotateBy, rotateDo, rotateFirst, rotateOn, rotateStep, rotateTurn, rotateTwoDo, settleStep, testFour, testThree, testTwo, turnFormed}
 use Rattle.machine.specs.Table.{View, slot1, slot2, slot3}
 use Rattle.steps.proofs.Facts.{Plain, both, formed-plain, inner-by, leads-to, linked-formed, other-link, side-link, still-facts}
 use Rattle.steps.proofs.Putting.{commit-does}
 use Rattle.steps.proofs.Rooms.{one-free, three-free, two-free}
-use Rattle.steps.proofs.Rowing.{LevelFacts, ParentFacts, level-row, parent-row}
+use Rattle.steps.proofs.Rowing.{LevelFacts, ParentFacts, level-row, parent-row, wide-row}
 use Rattle.steps.proofs.Settling.{Pair, double-pair, level-small, promote-pair, rotate1-pair, rotate2-pair}
 use Rattle.steps.proofs.Walking.{read-quiet}
 use Rattle.steps.specs.Does.{Does, hurts, leaves, rests, settle-commits}
@@ -194,12 +194,6 @@ module _ (v : View) (t : Tree) (i : Carries v t) (sh : Shape t) (n m : ℕ) (j :
             (omega (arith, p .ranks, f .0)) (omega (arith, p .ranks, f .1)) (free .first) (free .second) (free .third) (free .low) (free .high) _ _ _
             (omega (arith, p .ranks, f .0)) (omega (arith, p .ranks)) refl))
 
-      -- "at least 2"
-      wide-row : (row : ParentRow) → ParentFacts (v z .rank) (v o .rank) row → isWider row ≡ true → suc (suc (v o .rank)) ≤ v z .rank
-      wide-row Outranked f e = absurd (let y : _≡_ {A = ℕ} 0 1 = cc in omega arith)
-      wide-row Promote f e = absurd (let y : _≡_ {A = ℕ} 0 1 = cc in omega arith)
-      wide-row Wider f e = f
-
       -- x is well formed
       x-form : chooseFormed n q b (v z) (v x) (v o) ≡ true → Plain n (v x)
       unfolding chooseFormed
@@ -235,7 +229,7 @@ module _ (v : View) (t : Tree) (i : Carries v t) (sh : Shape t) (n m : ℕ) (j :
         rotate-first : (row : ParentRow) → ParentFacts (v z .rank) (v o .rank) row → Acts (SettleRotate a b c) (rotateFirst row v n j q a b c (v z) (v x))
         unfolding rotateFirst commitThree aroundOf
         rotate-first row f =
-            if-elim (Acts (SettleRotate a b c)) _ (λ w. rotate-turn (wide-row row f w))
+            if-elim (Acts (SettleRotate a b c)) _ (λ w. rotate-turn (wide-row (v z .rank) (v o .rank) row f w))
             (λ w. commit-does v t m j (Settling q (SettleRotate a b c)) _ _ _
             (λ gr te. let h = test-three te in promote-acts (SettleRotate a b c) row f (pair-found form (three-two gr) (h .0)) (z-still (h .0))))
 
@@ -268,7 +262,7 @@ module _ (v : View) (t : Tree) (i : Carries v t) (sh : Shape t) (n m : ℕ) (j :
           double-first : (row : ParentRow) → ParentFacts (v z .rank) (v o .rank) row → Acts (SettleDouble a b c d) (doubleFirst row v n j q a b c d (v z) (v x))
           unfolding doubleFirst commitFour aroundOf
           double-first row f =
-              if-elim (Acts (SettleDouble a b c d)) _ (λ w. double-turn (wide-row row f w))
+              if-elim (Acts (SettleDouble a b c d)) _ (λ w. double-turn (wide-row (v z .rank) (v o .rank) row f w))
               (λ w. commit-does v t m j (Settling q (SettleDouble a b c d)) _ _ _
               (λ gr te. let h = test-three (test-four te .0) in promote-acts (SettleDouble a b c d) row f (pair-found form (three-two (four-three _ gr)) (h .0)) (z-still (h .0))))
 

@@ -1,10 +1,12 @@
 -- What the rows of the settling table say of the ranks.
 use Prim.Native.Nat.{_-_, _<_, _≤_, suc, ℕ}
 use borrow.Author.Tests.{eqb-false, eqb-true, leb-false, leb-true, ltb-false, ltb-true}
+use mathlib.Core.Bool.{true}
 use mathlib.Core.Path.{_≡_, refl}
 use native.Mathlib.Omega.{arith}
 use Rattle.machine.proofs.Choice.{if-elim}
 use Rattle.machine.specs.Rows.{levelRow, parentRow}
+use Rattle.machine.specs.Settling.{isWider}
 use Rattle.terms.specs.declared.LevelRow.{LevelRow}
 use Rattle.terms.specs.declared.LevelRow.the-variants.{DoubleRotation, NoRow, RotateOne, RotateTwo}
 use Rattle.terms.specs.declared.ParentRow.{ParentRow}
@@ -22,6 +24,12 @@ parent-row z s =
     (λ e. let le : s ≤ z = ltb-false z s e in
     if-elim (ParentFacts z s) _ (λ d. (le, (let h : z - s ≤ 1 = leb-true (z - s) 1 d in omega arith)))
     (λ d. let h : 1 < z - s = leb-false (z - s) 1 d in omega arith))
+
+-- "at least 2"
+pub wide-row : (z s : ℕ) (row : ParentRow) → ParentFacts z s row → isWider row ≡ true → suc (suc s) ≤ z
+wide-row z s Outranked f e = absurd (let y : _≡_ {A = ℕ} 0 1 = cc in omega arith)
+wide-row z s Promote f e = absurd (let y : _≡_ {A = ℕ} 0 1 = cc in omega arith)
+wide-row z s Wider f e = f
 
 abbrev pub LevelFacts : ℕ → ℕ → ℕ → LevelRow → Type 0
 LevelFacts x y w NoRow = Unit {0}

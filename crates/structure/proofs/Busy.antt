@@ -6,6 +6,7 @@ use mathlib.Core.Path.{_∙_, _≡_, ap, subst, sym}
 use native.Mathlib.Omega.{arith}
 use Rattle.commits.proofs.Sight.{split}
 use Rattle.demand2.proofs.Seen.{all-idle}
+use Rattle.demand2.proofs.Carried.{goes-both}
 use Rattle.demand2.proofs.Counts.{all-alike}
 use Rattle.demand2.proofs.Demand2.{keeps, keeps-all}
 use Rattle.demand2.proofs.Passes.{Looks, Passes, abandons, begins, looks, passing, refused, resets, steps, tidies}
@@ -24,7 +25,7 @@ use Rattle.machine.specs.Table.{View}
 use Rattle.structure.proofs.Built.{built-at}
 use Rattle.structure.proofs.Changes.{one-call-at}
 use Rattle.structure.proofs.Grows.{grows-over, grows-same, grows-then, links-in-use, never-changed}
-use Rattle.structure.proofs.Since.{SinceRead, always-head, goes-both}
+use Rattle.structure.proofs.Since.{SinceRead, always-head}
 use Rattle.structure.specs.Built.{viewOf}
 use Rattle.structure.specs.Changes.{FreedBy, Frees, Grows, NoneFrees}
 use Rattle.structure.specs.Readings.{Always, BusyAt, Note, Unchanged}

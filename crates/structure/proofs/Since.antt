@@ -3,6 +3,7 @@ use Prim.Native.Nat.{ℕ}
 use mathlib.Core.List.{List, [], _++_, _∷_}
 use mathlib.Core.Logic.{inl, inr}
 use mathlib.Core.Path.{_∙_, _≡_, ap, refl, subst, sym}
+use Rattle.demand2.proofs.Carried.{goes-both}
 use Rattle.demand2.proofs.Demand2.{keeps-all}
 use Rattle.demand2.proofs.Stands.{Stands}
 use Rattle.grounds.specs.Record.{AsNoted}
@@ -23,11 +24,6 @@ append-nil (x ∷ xs) = ap (λ r. x ∷ r) (append-nil xs)
 append-assoc : (xs ys zs : List Ask) → (xs ++ ys) ++ zs ≡ xs ++ (ys ++ zs)
 append-assoc [] ys zs = refl
 append-assoc (x ∷ xs) ys zs = ap (λ r. x ∷ r) (append-assoc xs ys zs)
-
-pub goes-both : (p : Point) (xs ys : List Ask) → goes real p (xs ++ ys) ≡ goes real (goes real p xs) ys
-unfolding goes
-goes-both p [] ys = refl
-goes-both p (x ∷ xs) ys = goes-both (advance real p x) xs ys
 
 goes-snoc : (p : Point) (cs : List Ask) (c : Ask) → goes real p (cs ++ (c ∷ [])) ≡ advance real (goes real p cs) c
 unfolding goes

@@ -106,7 +106,7 @@ fn take_room(t: &mut [u32], n: u32, q: Path, left: bool, s: Rec, sibling: u32) -
 }
 
 // The commit of a take-out.
-pub fn take_commit(
+fn take_commit(
     t: &mut [u32],
     n: u32,
     j: Job,
@@ -134,7 +134,7 @@ pub fn take_commit(
 }
 
 // The readings.
-pub fn read_take_grand(n: u32, j: Job, q: Path, g: Rec) -> Turn
+fn read_take_grand(n: u32, j: Job, q: Path, g: Rec) -> Turn
     ensures { λ a. ⌜ a ≡ readTakeGrand n j q g ⌝ }
 {
     let good = in_tree(g) & lead_to(links_of(g), q.parent);
@@ -146,7 +146,7 @@ pub fn read_take_grand(n: u32, j: Job, q: Path, g: Rec) -> Turn
     )
 }
 
-pub fn read_take_parent(n: u32, j: Job, q: Path, a: Links, p: Rec) -> Turn
+fn read_take_parent(n: u32, j: Job, q: Path, a: Links, p: Rec) -> Turn
     ensures { λ b. ⌜ b ≡ readTakeParent n j q a p ⌝ }
 {
     let good = in_tree(p) & lead_to(links_of(p), q.here);
@@ -158,7 +158,7 @@ pub fn read_take_parent(n: u32, j: Job, q: Path, a: Links, p: Rec) -> Turn
     )
 }
 
-pub fn read_take_left(n: u32, j: Job, q: Path, a: Links, b: Links, l: Rec) -> Turn
+fn read_take_left(n: u32, j: Job, q: Path, a: Links, b: Links, l: Rec) -> Turn
     ensures { λ c. ⌜ c ≡ readTakeLeft n j q a b l ⌝ }
 {
     read_record(
@@ -169,7 +169,7 @@ pub fn read_take_left(n: u32, j: Job, q: Path, a: Links, b: Links, l: Rec) -> Tu
     )
 }
 
-pub fn read_take_right(n: u32, j: Job, q: Path, a: Links, b: Links, c: Links, r: Rec) -> Turn
+fn read_take_right(n: u32, j: Job, q: Path, a: Links, b: Links, c: Links, r: Rec) -> Turn
     ensures { λ d. ⌜ d ≡ readTakeRight n j q a b c r ⌝ }
 {
     read_record(

@@ -33,6 +33,11 @@ pub root-occ : (t : Tree) → 1 ≤ occ (root t) t
 root-occ (leaf s k pr rk) = omega (arith, ind-same s)
 root-occ (node s k rk l r) = omega (arith, ind-same s)
 
+-- the top of a tree is in state 1
+pub root-one : (v : View) (t : Tree) → Holds v t → v (root t) .state ≡ 1
+root-one v (leaf s k pr rk) h = ap (λ r. r .state) h
+root-one v (node s k rk l r) h = ap (λ r. r .state) (h .0)
+
 -- slot 0 is no one's child
 pub zero-out : (v : View) (t : Tree) → Carries v t → occ 0 t ≡ 0
 zero-out v t i = omega (arith, i .ones 0, ind-same 0, ind-le (v 0 .state) 1)

@@ -92,6 +92,11 @@ hale t st cs n e least most =
 abbrev Fine17 : Left → Type 0
 Fine17 l = numberOf (l .answer) ≡ 17 → ⊥
 
+-- a number and a price in their limits pass the step's test of them
+pub fits-job : (j : Job) → j .number < 1000000 → j .price < 100000 → jobFits j ≡ true
+unfolding jobFits numberFits priceFits
+fits-job j a b = rw (lt-ltb (j .number) 1000000 a, lt-ltb (j .price) 100000 b) refl
+
 module _ {p : Point} (h : Hale p) where
   abbrev s : Stands p
   s = h .rich .stands
@@ -159,10 +164,6 @@ module _ {p : Point} (h : Hale p) where
   does-fine {j} (put-commits b ws lim g ch) sf = put-fine j b
   does-fine (take-commits ws g ch) sf = λ q. omega arith
   does-fine (settle-commits ws g ch) sf = λ q. omega arith
-
-  fits-job : (j : Job) → j .number < 1000000 → j .price < 100000 → jobFits j ≡ true
-  unfolding jobFits numberFits priceFits
-  fits-job j a b = rw (lt-ltb (j .number) 1000000 a, lt-ltb (j .price) 100000 b) refl
 
   work-fine : (i : ℕ) (w : Work) → taskAt st i .work ≡ w → Fine17 (stepWork t st i w)
   unfolding stepWork carried

@@ -20,7 +20,7 @@ use Rattle.routes.specs.Route.{levAt, lv}
 use Rattle.steps.proofs.Choosing.{pair-found}
 use Rattle.steps.proofs.Facts.{both, formed-plain, side-link, still-facts}
 use Rattle.steps.proofs.Putting.{leaf-marks}
-use Rattle.steps.proofs.Rowing.{LevelFacts, ParentFacts, level-row, parent-row}
+use Rattle.steps.proofs.Rowing.{LevelFacts, ParentFacts, level-row, parent-row, wide-row}
 use Rattle.steps.proofs.Settling.{Pair, level-small}
 use Rattle.steps.specs.Trail.{Upper}
 use Rattle.terms.specs.Task.{busy}
@@ -196,18 +196,13 @@ module _ (n : ℕ) (v : View) (t : Tree) (g : Ground n v t) (paid : phi t ≤ 20
         child : (d : Bool) → v (link d (v x)) .state ≡ 1
         child d = below-facts n v t (g .carries) (g .shape) (g .bounded) x (link d (v x)) d one refl (x-link d) .one
 
-    wide-is : (row : ParentRow) → ParentFacts (v z .rank) (v o .rank) row → isWider row ≡ true → suc (suc (v o .rank)) ≤ v z .rank
-    wide-is Outranked f e = true-false false e refl
-    wide-is Promote f e = true-false false e refl
-    wide-is Wider f e = f
-
     choose-safe : Ok (chooseStep v n j q a b (v z) (v x) (v o))
     unfolding chooseStep chooseBy commitTwo readOn
     choose-safe =
         if-elim Ok _ (λ e. true-false _ form (not-true _ e))
         (λ e. if-elim Ok _
         (λ d. read-safe v t (busy j (Settling q (SettleChoose a b))) _ _ (v x) refl
-        (λ h. (w, sl, lev, turning-is (wide-is (parentRow (v z .rank) (v o .rank)) (parent-row (v z .rank) (v o .rank)) d) (in-tree-one (v x) h))) tt)
+        (λ h. (w, sl, lev, turning-is (wide-row (v z .rank) (v o .rank) (parentRow (v z .rank) (v o .rank)) (parent-row (v z .rank) (v o .rank)) d) (in-tree-one (v x) h))) tt)
         (λ d. commit-safe v t (busy j (Settling q (SettleChoose a b))) _ _ _ ground-two tt (λ te. promote-ok (parentRow (v z .rank) (v o .rank)) d (parent-row (v z .rank) (v o .rank)) te)))
 
     -- ---- with x noted
@@ -305,7 +300,7 @@ module _ (n : ℕ) (v : View) (t : Tree) (g : Ground n v t) (paid : phi t ≤ 20
       rotate-first-safe : (row : ParentRow) → ParentFacts (v z .rank) (v o .rank) row → Ok (rotateFirst row v n j q a b c (v z) (v x))
       unfolding rotateFirst commitThree aroundOf
       rotate-first-safe row f =
-          if-elim Ok _ (λ d. rotate-turn-safe (wide-is row f d))
+          if-elim Ok _ (λ d. rotate-turn-safe (wide-row (v z .rank) (v o .rank) row f d))
           (λ d. commit-safe v t (busy j (Settling q (SettleRotate a b c))) _ _ _ ground-three tt (λ te. promote-ok row d f (test-two te .0)))
 
       rotate-safe : Ok (rotateStep v n j q a b c (v z) (v x) (v o))
@@ -337,7 +332,7 @@ module _ (n : ℕ) (v : View) (t : Tree) (g : Ground n v t) (paid : phi t ≤ 20
         double-first-safe : (row : ParentRow) → ParentFacts (v z .rank) (v o .rank) row → Ok (doubleFirst row v n j q a b c d (v z) (v x))
         unfolding doubleFirst commitFour aroundOf
         double-first-safe row f =
-            if-elim Ok _ (λ e. double-turn-safe (wide-is row f e))
+            if-elim Ok _ (λ e. double-turn-safe (wide-row (v z .rank) (v o .rank) row f e))
             (λ e. commit-safe v t (busy j (Settling q (SettleDouble a b c d))) _ _ _ ground-four tt (λ te. promote-ok row e f (test-two (test-four-is te) .0)))
 
         double-safe : Ok (doubleStep v n j q a b c d (v z) (v x) (v o))

@@ -1,12 +1,17 @@
--- A mark more is a slot less to visit.
+-- How many slots are not marked yet: a mark more is a slot less to visit.
+use Prim.Native.Nat.{ℕ, zero, suc, _+_, _<_}
 use mathlib.Core.Path.{_≡_, refl}
 use mathlib.Core.List.{List, [], _∷_}
-use Prim.Native.Nat.{ℕ, zero, suc, _<_}
 use native.Mathlib.Nat.{not-suc-le-zero, le-of-suc-le-suc}
 use native.Mathlib.Omega.{arith}
 use borrow.Author.Tests.{eq-eqb}
+use lib.Dec.{eqb}
 use lib.ListN.{length, getD, set, replicate}
-use Rattle.reach.specs.Marks.{unmarked}
+use Rattle.machine.specs.State.{one}
+
+unfoldable pub unmarked : List ℕ → ℕ
+unmarked [] = 0
+unmarked (x ∷ xs) = one (eqb x 0) + unmarked xs
 
 pub unmarked-set : (m : List ℕ) (s : ℕ) → s < length m → getD m s 0 ≡ 0 → unmarked m ≡ suc (unmarked (set m s 1))
 unfolding unmarked
