@@ -142,7 +142,7 @@ static void stand_settling(struct driver *d, struct plain_task *k, const uint32_
     memcpy(k->note, notes, k->detail * sizeof *notes);
 }
 
-/* One thing more that is wrong with the task, or with m. */
+/* At times one thing more is wrong with the task or with m; mostly m is only near its limit. */
 static void twist(struct driver *d, struct plain_task *k) {
     uint32_t m = ONE(d, 1000, 999999, LAST_PUT_IN);
     switch (below(d, 20)) {
