@@ -12,9 +12,9 @@ fail() {
     exit 1
 }
 
-# The compiler, how it links, and what runs a program: nothing on x86-64.
+# The compiler, how it links, what runs a program (nothing on x86-64), and what tells the size of x86-64 code.
 choose_compiler() {
-    link=() runner=()
+    link=() runner=() size=size
     if [ "$(uname -m)" = x86_64 ]; then
         compiler=${CC:-cc}
     else
@@ -28,6 +28,7 @@ choose_cross_compiler() {
     local rt home
     compiler=${CC:-x86_64-linux-gnu-gcc}
     link=(-static)
+    size=x86_64-linux-gnu-size
     rt=$(command -v rt) || fail "the Rattle kit is needed: its command rt is not on the path."
     home=${RATTLE_HOME:-$(dirname "$(dirname "$(readlink -f "$rt")")")}
     runner=("$home/on/$(uname -m)/toolchain/bin/qemu-x86_64")

@@ -11,63 +11,14 @@
 #include <stdlib.h>
 #include <string.h>
 
-#include "random.h"
-#include "side.h"
+#include "driver.h"
 
-#define ROOM_MOST (2 * TIEBEAMER_SLOTS_MOST)
 #define LENT 7u /* what the lent places hold before a call */
-
-enum { POKE_TABLE = 8, POKE_STATE = 9 }; /* number is the place, price the value */
-
-#define SPARE 6
-#define STATE_ALL (TIEBEAMER_STATE_NUMBERS + SPARE)
-#define TASK_NUMBERS 15
-#define TOP UINT32_MAX
 
 /* A number that its kind does not use is 0. */
 struct call {
     uint32_t kind, operation, task, number, price, count, room, table_count, state_count;
 };
-
-/* Table and state of a side, and what the last call left in the lent places. */
-struct places {
-    uint32_t *table, *state;
-    uint32_t answer, price, figures[TIEBEAMER_FIGURES], room[ROOM_MOST];
-};
-
-/* How calls are chosen for a while. */
-struct mood {
-    uint32_t spread;     /* fare numbers are below this */
-    uint32_t run;        /* 0: single steps; else runs of up to so many */
-    uint32_t put, take;  /* in a hundred; the rest look up */
-    uint32_t abandon;    /* in a thousand steps */
-    int sorted;          /* fare numbers in order */
-};
-
-struct driver {
-    struct random random;
-    struct places tried, beside; /* beside: the plain C version, where the archive is tried */
-    uint32_t slots, length;
-    const struct side *side;
-    int alone, clearing;
-    uint32_t hurt_left, next_sorted;
-    struct mood mood;
-    uint32_t *kept_table, kept_state[STATE_ALL];
-};
-
-static uint32_t below(struct driver *d, uint32_t end) {
-    return random_below(&d->random, end);
-}
-
-static int percent(struct driver *d, uint32_t share) {
-    return below(d, 100) < share;
-}
-
-static uint32_t one_of(struct driver *d, const uint32_t *of, uint32_t count) {
-    return of[below(d, count)];
-}
-
-#define ONE(d, ...) one_of(d, (const uint32_t[]){__VA_ARGS__}, sizeof((uint32_t[]){__VA_ARGS__}) / sizeof(uint32_t))
 
 static void fail(const char *why) {
     fprintf(stderr, "compare: %s\n", why);
@@ -144,7 +95,7 @@ static void make(struct driver *d, const struct call *c) {
     put(d->tried.table, d->length);
 }
 
-static void poke(struct driver *d, uint32_t kind, uint32_t place, uint32_t value) {
+void poke(struct driver *d, uint32_t kind, uint32_t place, uint32_t value) {
     struct call c = {.kind = kind, .number = place, .price = value};
     (kind == POKE_TABLE ? d->tried.table : d->tried.state)[place] = value;
     (kind == POKE_TABLE ? d->beside.table : d->beside.state)[place] = value;
@@ -160,10 +111,6 @@ static void new_mood(struct driver *d) {
     d->mood.take = below(d, 101 - d->mood.put);
     d->mood.abandon = ONE(d, 2, 5, 40);
     d->mood.sorted = percent(d, 15);
-}
-
-static const uint32_t *task_row(const struct driver *d, uint32_t task) {
-    return d->tried.state + TASK_NUMBERS * task;
 }
 
 static struct call of_kind(const struct driver *d, uint32_t kind) {
@@ -260,10 +207,21 @@ static uint32_t any_task(struct driver *d) {
     return below(d, d->hurt_left ? 3 : TIEBEAMER_TASKS);
 }
 
+/* A step of the task that stands before a commit, or up to three. */
+static struct call stander_call(struct driver *d) {
+    struct call c = of_kind(d, percent(d, 50) ? STEP : RUN);
+    c.task = d->stander;
+    c.count = c.kind == RUN ? 1 + below(d, 3) : 0;
+    d->standing = 0;
+    return c;
+}
+
 static struct call choose(struct driver *d) {
     uint32_t what = below(d, 1000), task = any_task(d);
     if (below(d, 300) == 0)
         new_mood(d);
+    if (d->standing)
+        return stander_call(d);
     if (d->clearing)
         return clear_call(d);
     if (what < 8)
@@ -273,58 +231,8 @@ static struct call choose(struct driver *d) {
     return *task_row(d, task) ? move_call(d, task) : begin_call(d, task);
 }
 
-/* Damage: some numbers are poked, and put back after some calls. */
-
-/* A slot that a task remembers or has noted, or any. */
-static uint32_t near_slot(struct driver *d) {
-    uint32_t slot = task_row(d, below(d, 3))[4 + below(d, TASK_NUMBERS - 4)];
-    return slot && slot < d->slots && percent(d, 80) ? slot : below(d, d->slots);
-}
-
-static uint32_t odd_number(struct driver *d, uint32_t old) {
-    switch (below(d, 4)) {
-    case 0: return ONE(d, 0, 1, 2, 3, 4, 5, 28, 29, 255, 256, 99999, 100000, 999999, 1000000, 1000001, TOP);
-    case 1: return old + ONE(d, 1, 2, TOP);
-    case 2: return ONE(d, d->slots - 1, d->slots, d->slots + 1);
-    default: return near_slot(d);
-    }
-}
-
-/* A rank is mostly moved by little, so that its record stays well formed. */
-static void poke_record(struct driver *d) {
-    uint32_t field = ONE(d, 0, 1, 2, 3, 3, 3, 4, 5), place = TIEBEAMER_SLOT_NUMBERS * near_slot(d) + field;
-    uint32_t old = d->tried.table[place];
-    poke(d, POKE_TABLE, place, field == 3 && percent(d, 80) ? old + ONE(d, 1, 1, 2, TOP) : odd_number(d, old));
-}
-
-static void poke_any(struct driver *d) {
-    if (percent(d, 80)) {
-        poke_record(d);
-    } else {
-        uint32_t place = percent(d, 15) ? 120 + below(d, 2) : below(d, TIEBEAMER_STATE_NUMBERS);
-        poke(d, POKE_STATE, place, odd_number(d, d->tried.state[place]));
-    }
-}
-
-static void hurt(struct driver *d) {
-    memcpy(d->kept_table, d->tried.table, d->length * sizeof *d->kept_table);
-    memcpy(d->kept_state, d->tried.state, sizeof d->kept_state);
-    for (uint32_t left = ONE(d, 1, 1, 1, 2, 4); left; left--)
-        poke_any(d);
-    d->hurt_left = 1 + below(d, 24);
-}
-
-static void heal(struct driver *d) {
-    for (uint32_t i = 0; i < d->length; i++)
-        if (d->tried.table[i] != d->kept_table[i])
-            poke(d, POKE_TABLE, i, d->kept_table[i]);
-    for (uint32_t i = 0; i < STATE_ALL; i++)
-        if (d->tried.state[i] != d->kept_state[i])
-            poke(d, POKE_STATE, i, d->kept_state[i]);
-}
-
 static void one_round(struct driver *d) {
-    if (!d->hurt_left && below(d, 80) == 0)
+    if (!d->hurt_left && below(d, 40) == 0)
         hurt(d);
     struct call c = choose(d);
     make(d, &c);

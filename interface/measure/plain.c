@@ -5,15 +5,8 @@
 
 #include "../tiebeamer.h"
 
-enum { FREE, IN_TREE, OFF };
-enum { IDLE, START, WALK, PUTTING, TAKING, SETTLING };
 enum { LOOK = TIEBEAMER_LOOK_UP, PUT = TIEBEAMER_PUT_IN, TAKE = TIEBEAMER_TAKE_OUT, SETTLE = 4 };
 
-#define NO_GRAND UINT32_MAX
-#define SENTINEL UINT32_MAX
-#define SENTINEL_RANK 255u
-#define LAST_RANK 28u
-#define LAST_PUT_IN 1000000u
 #define NUMBERS TIEBEAMER_SLOT_NUMBERS
 #define MOST TIEBEAMER_SLOTS_MOST
 
@@ -263,10 +256,6 @@ struct around {
     uint32_t s_slot, y_slot, w_slot;
     int left; /* x is the left child of z */
 };
-
-static inline struct plain_links sided(int left, uint32_t own, uint32_t across) {
-    return left ? (struct plain_links){own, across} : (struct plain_links){across, own};
-}
 
 static inline void write_copy(struct table t, uint32_t slot, const struct record *old, uint32_t rank, struct plain_links l) {
     t.at[slot] = (struct record){IN_TREE, old->number, old->price, rank, l.left, l.right};

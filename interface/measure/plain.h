@@ -9,9 +9,23 @@
 #include <stddef.h>
 #include <stdint.h>
 
+enum { FREE, IN_TREE, OFF };                            /* a record's state */
+enum { IDLE, START, WALK, PUTTING, TAKING, SETTLING };  /* a task's phase */
+
+#define NO_GRAND UINT32_MAX
+#define SENTINEL UINT32_MAX
+#define SENTINEL_RANK 255u
+#define LAST_RANK 28u
+#define LAST_PUT_IN 1000000u
+
 struct plain_links {
     uint32_t left, right;
 };
+
+/* Two links by the side on which the first one stands. */
+static inline struct plain_links sided(int left, uint32_t own, uint32_t across) {
+    return left ? (struct plain_links){own, across} : (struct plain_links){across, own};
+}
 
 /* A place that a phase does not use is 0. */
 struct plain_task {
