@@ -592,12 +592,13 @@ fn walker_by(w: &[u32]) -> Walker
     requires { ⌜ 15 ≤ length (now w) ⌝ }
     ensures { λ r. ⌜ r ≡ walkerBy (now (w .entry)) ⌝ }
 {
+    let q = path_by(w);
     Walker {
         phase: w[0],
         job: job_by(w),
         mark: w[3],
-        parent: w[5],
-        here: w[6],
+        parent: q.parent,
+        here: q.here,
     }
 }
 

@@ -4,38 +4,29 @@ use Rattle.statecode.proofs.walker_by.Tie as tie
 use Rattle.statecode.proofs.walker_by.Reads as reads
 use Rattle.statecode.proofs.walker_by.Lts as lts
 use Rattle.statecode.proofs.job_by.Reads as job-by-reads
+use Rattle.statecode.proofs.path_by.Reads as path-by-reads
 
--- src/lib.rt:596:16
-shared-slice-read-t3 : tie.Need-shared-slice-read-t3
-shared-slice-read-t3 c = search needs
+-- src/lib.rt:595:9
+path-by-requires : tie.Need-path-by-requires
+path-by-requires c κs = search needs
 
--- src/lib.rt:597:14
+-- src/lib.rt:597:16
+shared-slice-read-t4 : tie.Need-shared-slice-read-t4
+shared-slice-read-t4 c = search needs
+
+-- src/lib.rt:598:14
 job-by-requires : tie.Need-job-by-requires
 job-by-requires c κs = search needs
 
--- src/lib.rt:598:15
-shared-slice-read-t6 : tie.Need-shared-slice-read-t6
-shared-slice-read-t6 c = search needs
-
--- src/lib.rt:599:17
-shared-slice-read-t8 : tie.Need-shared-slice-read-t8
-shared-slice-read-t8 c = search needs
-
--- src/lib.rt:600:15
-shared-slice-read-t10 : tie.Need-shared-slice-read-t10
-shared-slice-read-t10 c = search needs
+-- src/lib.rt:599:15
+shared-slice-read-t7 : tie.Need-shared-slice-read-t7
+shared-slice-read-t7 c = search needs
 
 -- src/lib.rt:591:1
 returns : tie.Need-returns
-returns c = simp (c .before .before .before .job-by .ensures)
+returns c = simp (c .before .job-by .ensures, c .before .before .before .path-by .ensures)
 
 pub walker-by-spec : {M : Type 1} → statement M
 walker-by-spec =
     tie.close
-    (tie.spec
-    shared-slice-read-t3
-    job-by-requires
-    shared-slice-read-t6
-    shared-slice-read-t8
-    shared-slice-read-t10
-    returns)
+    (tie.spec path-by-requires shared-slice-read-t4 job-by-requires shared-slice-read-t7 returns)
