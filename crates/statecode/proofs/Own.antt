@@ -3,11 +3,10 @@ use mathlib.Core.Path.{_≡_, refl, sym, ap, _∙_}
 use mathlib.Core.Bool.{Bool, true, false, not, _&&_}
 use mathlib.Core.List.{List, [], _∷_, _++_, append-assoc}
 use Prim.Native.Nat.{ℕ, zero, suc, _+_, _-_, _*_, _≤_, _<_}
-use native.Mathlib.Numerals.{add-one}
 use native.Mathlib.Omega.{arith}
 use lib.Dec.{eqb, leb}
 use lib.ListN.{length, getD, take, drop, set, length-append, length-drop, length-set, drop-of-length-le}
-use lib.Seq.{drop-cons, drop-drop, drop-at, take-at, take-all, set-at, set-split, split-at, paste, append-snoc, length-take-le, getD-at}
+use lib.Seq.{drop-cons, drop-drop, drop-at, take-at, take-all, set-at, set-split, split-at, paste, append-snoc, length-take-le}
 use borrow.Author.Tests.{le-leb, not-true, not-false}
 use Rattle.terms.specs.declared.Task.{Task}
 use Rattle.terms.specs.declared.State.{State}

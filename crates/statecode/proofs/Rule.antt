@@ -1,12 +1,12 @@
 -- The numbers of a task by phase and count are those of the task that they read as.
 use mathlib.Core.Path.{_≡_, refl, sym, _∙_}
-use mathlib.Core.Bool.{Bool, true, false, _&&_}
+use mathlib.Core.Bool.{Bool, true, false}
 use mathlib.Core.List.{List}
 use Prim.Native.Nat.{ℕ, _≤_}
 use native.Mathlib.Omega.{arith}
 use lib.Dec.{eqb}
 use lib.ListN.{length, getD}
-use borrow.Author.Tests.{eq-eqb, ne-eqb, eqb-true}
+use borrow.Author.Tests.{eq-eqb, eqb-true}
 use Rattle.terms.specs.declared.Job.{Job}
 use Rattle.terms.specs.declared.Path.{Path}
 use Rattle.terms.specs.declared.SettleStage.{SettleStage}

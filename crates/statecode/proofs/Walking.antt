@@ -1,11 +1,11 @@
 -- A walker's numbers: the first seven written store the task, since the rest of its fifteen are 0.
 use mathlib.Core.Path.{_≡_, refl, sym, ap, _∙_}
-use mathlib.Core.Bool.{Bool, true, false}
+use mathlib.Core.Bool.{true}
 use mathlib.Core.List.{List, [], _∷_, _++_}
 use Prim.Native.Nat.{ℕ, zero, suc, _+_, _*_, _<_}
 use native.Mathlib.Nat.{add-zero}
 use native.Mathlib.Omega.{arith}
-use lib.ListN.{length, getD, drop, set, length-set}
+use lib.ListN.{length, getD, drop, set}
 use lib.Seq.{drop-at}
 use Rattle.terms.specs.declared.Path.{Path}
 use Rattle.terms.specs.declared.Job.{Job}
@@ -16,9 +16,11 @@ use Rattle.terms.specs.declared.Task.{Task}
 use Rattle.terms.specs.declared.State.{State}
 use Rattle.terms.specs.Task.{idleTask}
 use Rattle.statecode.specs.Code.{noLinks, places, workRow, encode, taskBy, stateBy, isState}
+use Rattle.machine.specs.State.{taskAt}
+use Rattle.statecode.specs.declared.Walker.{Walker}
 use Rattle.statecode.specs.Own.{storing}
-use Rattle.statecode.specs.Walking.{noNotes, putFirst}
-use Rattle.statecode.proofs.Own.{own-encode, eight, front, own, later, ends, length-front, whole, set-whole, as-stored, own-stored}
+use Rattle.statecode.specs.Walking.{walkerBy, noNotes, putFirst}
+use Rattle.statecode.proofs.Own.{own-encode, eight, task-alone, front, own, later, ends, length-front, whole, set-whole, as-stored, own-stored}
 
 -- a place behind a front is a place of the rest
 set-behind : (a l : List ℕ) (n d v : ℕ) → length a ≡ n → set (a ++ l) (n + d) v ≡ a ++ set l d v
@@ -57,6 +59,14 @@ first-row (Busy i (Walk g p)) e l f j k q = refl
 first-row (Busy i (PuttingIn p s)) e l f j k q = absurd (let r : _≡_ {A = ℕ} 0 1 = cc in omega arith)
 first-row (Busy i (TakingOut p s)) e l f j k q = absurd (let r : _≡_ {A = ℕ} 0 1 = cc in omega arith)
 first-row (Busy i (Settling p s)) e l f j k q = absurd (let r : _≡_ {A = ℕ} 0 1 = cc in omega arith)
+
+-- task i is what its numbers read as
+pub task-row : (w : List ℕ) (i : ℕ) → i < 8 → taskAt (stateBy w) i ≡ taskBy (drop (15 * i) w)
+unfolding stateBy
+task-row w i h = task-alone 8 w i h
+
+pub phase-row : (w : List ℕ) (i : ℕ) (k : Walker) → k ≡ walkerBy (drop (15 * i) w) → k .phase ≡ getD (drop (15 * i) w) 0 0
+phase-row w i k e = ap (λ (z : Walker). z .phase) e
 
 module _ (w : List ℕ) (i : ℕ) (e : isState w ≡ true) (h : i < 8) where
   abbrev st : State

@@ -4,14 +4,11 @@ use mathlib.Core.Bool.{Bool, true, false, not}
 use mathlib.Core.List.{List}
 use Prim.Native.Nat.{ℕ, _+_, _*_, _≤_, _<_}
 use native.Mathlib.Nat.{add-zero}
-use native.Mathlib.Omega.{arith}
-use lib.Dec.{eqb}
-use lib.ListN.{length, getD, drop}
+use lib.ListN.{getD, drop}
 use borrow.Author.Tests.{eq-eqb, ne-eqb, not-false}
 use Rattle.terms.specs.declared.Path.{Path}
 use Rattle.terms.specs.declared.Job.{Job}
 use Rattle.terms.specs.declared.Operation.{Operation}
-use Rattle.terms.specs.declared.Operation.the-variants.{LookUp, PutIn, TakeOut}
 use Rattle.terms.specs.declared.Goal.the-variants.{Serve}
 use Rattle.terms.specs.declared.Phase.the-variants.{Start}
 use Rattle.terms.specs.declared.Task.{Task}
@@ -33,19 +30,16 @@ use Rattle.statecode.specs.Code.{goalNumber, noPath, noLinks, places, phaseRow,
 use Rattle.statecode.specs.Own.{storing}
 use Rattle.statecode.specs.Walking.{walkerBy, noNotes, putFirst}
 use Rattle.statecode.proofs.Inverse.{encode-decode}
-use Rattle.statecode.proofs.Own.{task-alone}
-use Rattle.statecode.proofs.Walking.{walker-stored, walker-own}
-use Rattle.tiebeamer.specs.Numbers.{outBy}
+use Rattle.statecode.proofs.Walking.{task-row, phase-row, walker-stored, walker-own}
 use Rattle.tiebeamer.proofs.ByNumbers.{m-by, u-by}
 
 -- whether task i is busy: its place 0
 module _ (w : List ℕ) (i : ℕ) (h : i < 8) (k : Walker) (ek : k ≡ walkerBy (drop (15 * i) w)) where
   task-is : taskAt (stateBy w) i ≡ taskBy (drop (15 * i) w)
-  unfolding stateBy
-  task-is = task-alone 8 w i h
+  task-is = task-row w i h
 
   same-phase : k .phase ≡ getD (drop (15 * i) w) 0 0
-  same-phase = ap (λ (z : Walker). z .phase) ek
+  same-phase = phase-row w i k ek
 
   idle-at : k .phase ≡ 0 → taskAt (stateBy w) i ≡ idleTask
   unfolding taskBy ifB

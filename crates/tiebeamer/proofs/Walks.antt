@@ -6,31 +6,27 @@ use Prim.Native.Nat.{ℕ, zero, suc, _+_, _*_, _≤_, _<_}
 use native.Mathlib.Nat.{add-zero}
 use native.Mathlib.Omega.{arith}
 use lib.Dec.{eqb, leb}
-use lib.ListN.{length, getD, drop}
+use lib.ListN.{getD, drop}
 use borrow.Author.Tests.{eq-eqb, ne-eqb, eqb-true, leb-true}
 use Rattle.machine.proofs.Tests.{both-first, both-second}
 use Rattle.terms.specs.declared.Path.{Path}
-use Rattle.terms.specs.declared.Job.{Job}
-use Rattle.terms.specs.declared.Goal.{Goal}
 use Rattle.terms.specs.declared.Phase.{Phase}
 use Rattle.terms.specs.declared.Phase.the-variants.{Start, Walk, PuttingIn, TakingOut, Settling}
 use Rattle.terms.specs.declared.PutStage.the-variants.{PutParent}
 use Rattle.terms.specs.declared.TakeStage.the-variants.{TakeGrand}
 use Rattle.terms.specs.declared.SettleStage.the-variants.{SettleGrand}
-use Rattle.terms.specs.declared.Work.{Work}
-use Rattle.terms.specs.declared.Work.the-variants.{Idle, Busy}
 use Rattle.terms.specs.declared.Task.{Task}
 use Rattle.terms.specs.declared.Answer.{Answer}
 use Rattle.terms.specs.declared.Answer.the-variants.{Accepted, Damaged}
 use Rattle.terms.specs.declared.Turn.{Turn}
 use Rattle.terms.specs.declared.Turn.the-variants.{Hurt, Next, Done}
 use Rattle.terms.specs.declared.Out.{Out}
-use Rattle.terms.specs.Task.{idleTask, busy, noGrand}
+use Rattle.terms.specs.Task.{busy}
 use Rattle.machine.specs.Choice.{ifB}
 use Rattle.machine.specs.State.{taskAt, sound, jobFits}
 use Rattle.machine.specs.Table.{view, slots}
 use Rattle.machine.specs.Walk.{walkFrom, walkOn}
-use Rattle.machine.specs.Commit.{Did, calm}
+use Rattle.machine.specs.Commit.{calm}
 use Rattle.machine.specs.Contract.{after, turnedOut}
 use Rattle.machine.specs.Step.{phaseStep, stepWork}
 use Rattle.machine.proofs.Writes.{calmly, quiet}
@@ -41,16 +37,11 @@ use Rattle.stepping.proofs.Rows.{damaged-row, goes-row}
 use Rattle.statecode.specs.declared.Walker.{Walker}
 use Rattle.statecode.specs.Code.{noLinks, places, phaseRow, workRow, goalNumber, goalBy, jobBy, pathBy, phaseBy, taskBy, stateBy, isState}
 use Rattle.statecode.specs.Own.{storing}
-use Rattle.statecode.specs.Walking.{walkerBy, noNotes, putFirst}
-use Rattle.statecode.proofs.Own.{eight, later, ends, task-alone}
-use Rattle.statecode.proofs.Walking.{row-at, walker-stored, walker-own}
+use Rattle.statecode.specs.Walking.{noNotes, putFirst}
+use Rattle.statecode.proofs.Own.{eight, later, ends}
+use Rattle.statecode.proofs.Walking.{task-row, phase-row, row-at, walker-stored, walker-own}
 use Rattle.tiebeamer.specs.Numbers.{outBy, fromOf, grandOf, Walks}
 use Rattle.tiebeamer.proofs.ByNumbers.{hurt-turn, next-turn}
-
--- task i is what its numbers read as
-task-by : (w : List ℕ) (i : ℕ) → i < 8 → taskAt (stateBy w) i ≡ taskBy (drop (15 * i) w)
-unfolding stateBy
-task-by w i h = task-alone 8 w i h
 
 start-by : (r : List ℕ) → getD r 0 0 ≡ 1 → taskBy r ≡ busy (jobBy r) (Start (goalBy (getD r 3 0)))
 unfolding taskBy phaseBy ifB
@@ -78,13 +69,13 @@ module _ (w : List ℕ) (i : ℕ) (k : Walker) (walks : Walks w i k) where
   row = drop (15 * i) w
 
   same-phase : k .phase ≡ getD row 0 0
-  same-phase = ap (λ (z : Walker). z .phase) (walks .3)
+  same-phase = phase-row w i k (walks .3)
 
   at-start : k .phase ≡ 1 → taskAt (stateBy w) i ≡ busy (k .job) (Start (goalBy (k .mark)))
-  at-start e = task-by w i (walks .2) ∙ start-by row (sym same-phase ∙ e) ∙ rw (walks .3) refl
+  at-start e = task-row w i (walks .2) ∙ start-by row (sym same-phase ∙ e) ∙ rw (walks .3) refl
 
   at-walk : k .phase ≡ 2 → taskAt (stateBy w) i ≡ busy (k .job) (Walk (goalBy (k .mark)) (pathBy row))
-  at-walk e = task-by w i (walks .2) ∙ walk-at row (sym same-phase ∙ e) ∙ rw (walks .3) refl
+  at-walk e = task-row w i (walks .2) ∙ walk-at row (sym same-phase ∙ e) ∙ rw (walks .3) refl
 
   by-phase : (P : Type 0) → (k .phase ≡ 1 → P) → (k .phase ≡ 2 → P) → P
   by-phase P f g = one-or-two P (k .phase) (walks .4) (walks .5) f g

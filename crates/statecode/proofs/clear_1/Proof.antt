@@ -6,63 +6,48 @@ use Rattle.statecode.proofs.clear_1.Tie as tie
 use Rattle.statecode.proofs.clear_1.Reads as reads
 use Rattle.statecode.proofs.clear_1.Lts as lts
 
--- src/lib.rt:348:11
 shared-slice-read-result : tie.Need-shared-slice-read-result
 shared-slice-read-result c = search needs
 
--- src/lib.rt:348:25
 shared-slice-read-result-2 : tie.Need-shared-slice-read-result-2
 shared-slice-read-result-2 c = search needs
 
--- src/lib.rt:348:39
 shared-slice-read-result-3 : tie.Need-shared-slice-read-result-3
 shared-slice-read-result-3 c = search needs
 
--- src/lib.rt:348:53
 shared-slice-read-result-4 : tie.Need-shared-slice-read-result-4
 shared-slice-read-result-4 c = search needs
 
--- src/lib.rt:348:67
 shared-slice-read-result-5 : tie.Need-shared-slice-read-result-5
 shared-slice-read-result-5 c = search needs
 
--- src/lib.rt:348:81
 shared-slice-read-result-6 : tie.Need-shared-slice-read-result-6
 shared-slice-read-result-6 c = search needs
 
--- src/lib.rt:348:95
 shared-slice-read-result-7 : tie.Need-shared-slice-read-result-7
 shared-slice-read-result-7 c = search needs
 
--- src/lib.rt:348:109
 shared-slice-read-result-8 : tie.Need-shared-slice-read-result-8
 shared-slice-read-result-8 c = search needs
 
--- src/lib.rt:348:123
 shared-slice-read-result-9 : tie.Need-shared-slice-read-result-9
 shared-slice-read-result-9 c = search needs
 
--- src/lib.rt:348:137
 shared-slice-read-result-10 : tie.Need-shared-slice-read-result-10
 shared-slice-read-result-10 c = search needs
 
--- src/lib.rt:348:152
 shared-slice-read-result-11 : tie.Need-shared-slice-read-result-11
 shared-slice-read-result-11 c = search needs
 
--- src/lib.rt:348:167
 shared-slice-read-result-12 : tie.Need-shared-slice-read-result-12
 shared-slice-read-result-12 c = search needs
 
--- src/lib.rt:348:182
 shared-slice-read-result-13 : tie.Need-shared-slice-read-result-13
 shared-slice-read-result-13 c = search needs
 
--- src/lib.rt:348:197
 shared-slice-read-result-14 : tie.Need-shared-slice-read-result-14
 shared-slice-read-result-14 c = search needs
 
--- src/lib.rt:344:1
 returns : tie.Need-returns
 unfolding clearFrom
 returns c = refl

@@ -6,23 +6,18 @@ use Rattle.statecode.proofs.clear_11.Tie as tie
 use Rattle.statecode.proofs.clear_11.Reads as reads
 use Rattle.statecode.proofs.clear_11.Lts as lts
 
--- src/lib.rt:376:11
 shared-slice-read-result : tie.Need-shared-slice-read-result
 shared-slice-read-result c = search needs
 
--- src/lib.rt:376:26
 shared-slice-read-result-2 : tie.Need-shared-slice-read-result-2
 shared-slice-read-result-2 c = search needs
 
--- src/lib.rt:376:41
 shared-slice-read-result-3 : tie.Need-shared-slice-read-result-3
 shared-slice-read-result-3 c = search needs
 
--- src/lib.rt:376:56
 shared-slice-read-result-4 : tie.Need-shared-slice-read-result-4
 shared-slice-read-result-4 c = search needs
 
--- src/lib.rt:372:1
 returns : tie.Need-returns
 unfolding clearFrom
 returns c = refl

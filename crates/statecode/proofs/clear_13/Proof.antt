@@ -6,15 +6,12 @@ use Rattle.statecode.proofs.clear_13.Tie as tie
 use Rattle.statecode.proofs.clear_13.Reads as reads
 use Rattle.statecode.proofs.clear_13.Lts as lts
 
--- src/lib.rt:383:11
 shared-slice-read-result : tie.Need-shared-slice-read-result
 shared-slice-read-result c = search needs
 
--- src/lib.rt:383:26
 shared-slice-read-result-2 : tie.Need-shared-slice-read-result-2
 shared-slice-read-result-2 c = search needs
 
--- src/lib.rt:379:1
 returns : tie.Need-returns
 unfolding clearFrom
 returns c = refl

@@ -6,51 +6,39 @@ use Rattle.statecode.proofs.clear_4.Tie as tie
 use Rattle.statecode.proofs.clear_4.Reads as reads
 use Rattle.statecode.proofs.clear_4.Lts as lts
 
--- src/lib.rt:355:11
 shared-slice-read-result : tie.Need-shared-slice-read-result
 shared-slice-read-result c = search needs
 
--- src/lib.rt:355:25
 shared-slice-read-result-2 : tie.Need-shared-slice-read-result-2
 shared-slice-read-result-2 c = search needs
 
--- src/lib.rt:355:39
 shared-slice-read-result-3 : tie.Need-shared-slice-read-result-3
 shared-slice-read-result-3 c = search needs
 
--- src/lib.rt:355:53
 shared-slice-read-result-4 : tie.Need-shared-slice-read-result-4
 shared-slice-read-result-4 c = search needs
 
--- src/lib.rt:355:67
 shared-slice-read-result-5 : tie.Need-shared-slice-read-result-5
 shared-slice-read-result-5 c = search needs
 
--- src/lib.rt:355:81
 shared-slice-read-result-6 : tie.Need-shared-slice-read-result-6
 shared-slice-read-result-6 c = search needs
 
--- src/lib.rt:355:95
 shared-slice-read-result-7 : tie.Need-shared-slice-read-result-7
 shared-slice-read-result-7 c = search needs
 
--- src/lib.rt:355:110
 shared-slice-read-result-8 : tie.Need-shared-slice-read-result-8
 shared-slice-read-result-8 c = search needs
 
--- src/lib.rt:355:125
 shared-slice-read-result-9 : tie.Need-shared-slice-read-result-9
 shared-slice-read-result-9 c = search needs
 
--- src/lib.rt:355:140
 shared-slice-read-result-10 : tie.Need-shared-slice-read-result-10
 shared-slice-read-result-10 c = search needs
 
--- src/lib.rt:355:155
 shared-slice-read-result-11 : tie.Need-shared-slice-read-result-11
 shared-slice-read-result-11 c = search needs
 
--- src/lib.rt:351:1
 returns : tie.Need-returns
 unfolding clearFrom
 returns c = refl

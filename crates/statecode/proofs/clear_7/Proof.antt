@@ -6,39 +6,30 @@ use Rattle.statecode.proofs.clear_7.Tie as tie
 use Rattle.statecode.proofs.clear_7.Reads as reads
 use Rattle.statecode.proofs.clear_7.Lts as lts
 
--- src/lib.rt:362:11
 shared-slice-read-result : tie.Need-shared-slice-read-result
 shared-slice-read-result c = search needs
 
--- src/lib.rt:362:25
 shared-slice-read-result-2 : tie.Need-shared-slice-read-result-2
 shared-slice-read-result-2 c = search needs
 
--- src/lib.rt:362:39
 shared-slice-read-result-3 : tie.Need-shared-slice-read-result-3
 shared-slice-read-result-3 c = search needs
 
--- src/lib.rt:362:53
 shared-slice-read-result-4 : tie.Need-shared-slice-read-result-4
 shared-slice-read-result-4 c = search needs
 
--- src/lib.rt:362:68
 shared-slice-read-result-5 : tie.Need-shared-slice-read-result-5
 shared-slice-read-result-5 c = search needs
 
--- src/lib.rt:362:83
 shared-slice-read-result-6 : tie.Need-shared-slice-read-result-6
 shared-slice-read-result-6 c = search needs
 
--- src/lib.rt:362:98
 shared-slice-read-result-7 : tie.Need-shared-slice-read-result-7
 shared-slice-read-result-7 c = search needs
 
--- src/lib.rt:362:113
 shared-slice-read-result-8 : tie.Need-shared-slice-read-result-8
 shared-slice-read-result-8 c = search needs
 
--- src/lib.rt:358:1
 returns : tie.Need-returns
 unfolding clearFrom
 returns c = refl

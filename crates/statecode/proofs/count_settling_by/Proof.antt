@@ -20,55 +20,42 @@ Inv-loop w n₀ i₀ n i = (i ≤ 8) × (n ≤ i) × (length w ≡ 122) × (n �
 abbrev μ-loop : tie.MeasureT-loop
 μ-loop w n₀ i₀ n i = 8 - i
 
--- src/lib.rt:431:5
 loop-holds : tie.Need-loop-holds Inv-loop μ-loop
 loop-holds c = (omega arith, omega arith, c .before .pre, none-settling _)
 
--- src/lib.rt:432:35
 mul-settles-by : tie.Need-mul-settles-by Inv-loop μ-loop
 mul-settles-by c = omega arith
 
--- src/lib.rt:432:32
 mul-settles-by-2 : tie.Need-mul-settles-by-2 Inv-loop μ-loop
 mul-settles-by-2 c = omega arith
 
--- src/lib.rt:432:32
 sub-settles-by : tie.Need-sub-settles-by Inv-loop μ-loop
 sub-settles-by c = omega arith
 
--- src/lib.rt:432:32
 part-settles-by-start : tie.Need-part-settles-by-start Inv-loop μ-loop
 part-settles-by-start c = omega arith
 
--- src/lib.rt:432:32
 part-settles-by-end : tie.Need-part-settles-by-end Inv-loop μ-loop
 part-settles-by-end c = omega arith
 
--- src/lib.rt:432:21
 settles-by-requires : tie.Need-settles-by-requires Inv-loop μ-loop
 settles-by-requires c κs = part-fits (c .before .before .before .before .args .w .now) (c .before .before .loop .i) (c .before .before .loop .inv .2) (omega arith)
 
--- src/lib.rt:432:14
 one-if-requires : tie.Need-one-if-requires Inv-loop μ-loop
 one-if-requires c κs = search needs
 
--- src/lib.rt:432:9
 add-n : tie.Need-add-n Inv-loop μ-loop
 add-n c = let h = c .one-if .ensures .1 in omega arith
 
--- src/lib.rt:433:9
 add-i : tie.Need-add-i Inv-loop μ-loop
 add-i c = omega arith
 
--- src/lib.rt:431:5
 loop-less : tie.Need-loop-less Inv-loop μ-loop
 loop-less c = omega arith
 
--- src/lib.rt:431:5
 loop-again : tie.Need-loop-again Inv-loop μ-loop
 loop-again c = let h = c .one-if .ensures .1 in (omega arith, omega arith, c .before .before .before .before .loop .inv .2, rw (c .one-if .ensures .0, c .before .settles-by .ensures, part-task (c .before .before .before .before .before .before .args .w .now) (c .before .before .before .before .loop .i) (omega arith), c .before .before .before .before .loop .inv .3) (sym (one-more-settling _ _)))
 
--- src/lib.rt:425:1
 returns : tie.Need-returns Inv-loop μ-loop
 returns c = let e : c .before .loop .i ≡ 8 = omega arith in (rw e at (c .before .loop .inv .3), omega arith)
 

@@ -6,27 +6,21 @@ use Rattle.statecode.proofs.is_sound_with.Reads as reads
 use Rattle.statecode.proofs.is_sound_with.Lts as lts
 use Rattle.statecode.proofs.count_settling_by.Reads as count-settling-by-reads
 
--- src/lib.rt:435:8
 add-if1 : tie.Need-add-if1
 add-if1 c = search needs
 
--- src/lib.rt:436:9
 returns : tie.Need-returns
 returns c = sound-few (c .before .before .args .w .now) (c .before .before .args .m) (c .before .before .args .u) (c .before .before .pre .1) (c .before .before .pre .2) (c .if1 .taken)
 
--- src/lib.rt:438:19
 count-settling-by-requires : tie.Need-count-settling-by-requires
 count-settling-by-requires c κs = search needs
 
--- src/lib.rt:438:19
 cast-all : tie.Need-cast-all
 cast-all c = search needs
 
--- src/lib.rt:438:15
 add-all : tie.Need-add-all
 add-all c = search needs
 
--- src/lib.rt:430:1
 returns-2 : tie.Need-returns-2
 returns-2 c = sound-counted (c .before .before .before .args .w .now) (c .before .before .before .args .m) (c .before .before .before .args .u) (c .before .before .before .pre .1) (c .before .before .before .pre .2) _ (c .count-settling-by .ensures .0)
 

@@ -18,55 +18,42 @@ Inv-loop w i₀ i = (i ≤ 8) × (length w ≡ 122) × (isState w ≡ ownRows (8
 abbrev μ-loop : tie.MeasureT-loop
 μ-loop w i₀ i = 8 - i
 
--- src/lib.rt:374:9
 returns : tie.Need-returns Inv-loop μ-loop
 returns c = other-none (c .before .before .args .w .now) (c .if1 .taken)
 
--- src/lib.rt:377:5
 loop-holds : tie.Need-loop-holds Inv-loop μ-loop
 loop-holds c = (omega arith, c .if1 .left, own-all (c .before .before .args .w .now) (c .if1 .left))
 
--- src/lib.rt:378:24
 mul-own-row : tie.Need-mul-own-row Inv-loop μ-loop
 mul-own-row c = omega arith
 
--- src/lib.rt:378:21
 mul-own-row-2 : tie.Need-mul-own-row-2 Inv-loop μ-loop
 mul-own-row-2 c = omega arith
 
--- src/lib.rt:378:21
 sub-own-row : tie.Need-sub-own-row Inv-loop μ-loop
 sub-own-row c = omega arith
 
--- src/lib.rt:378:21
 part-own-row-start : tie.Need-part-own-row-start Inv-loop μ-loop
 part-own-row-start c = omega arith
 
--- src/lib.rt:378:21
 part-own-row-end : tie.Need-part-own-row-end Inv-loop μ-loop
 part-own-row-end c = omega arith
 
--- src/lib.rt:378:13
 own-row-requires : tie.Need-own-row-requires Inv-loop μ-loop
 own-row-requires c κs = part-fits (c .before .before .before .before .before .args .w .now) (c .before .before .loop .i) (c .before .before .loop .inv .1) (omega arith)
 
--- src/lib.rt:379:13
 returns-2 : tie.Need-returns-2 Inv-loop μ-loop
 returns-2 c = part-stops (c .before .before .before .before .before .before .before .args .w .now) (c .before .before .before .before .loop .i) (omega arith) (c .before .before .before .before .loop .inv .2) _ (c .before .own-row .ensures) (c .if2 .taken)
 
--- src/lib.rt:381:9
 add-i : tie.Need-add-i Inv-loop μ-loop
 add-i c = omega arith
 
--- src/lib.rt:377:5
 loop-less : tie.Need-loop-less Inv-loop μ-loop
 loop-less c = omega arith
 
--- src/lib.rt:377:5
 loop-again : tie.Need-loop-again Inv-loop μ-loop
 loop-again c = (omega arith, c .before .before .before .before .loop .inv .1, part-goes (c .before .before .before .before .before .before .before .args .w .now) (c .before .before .before .before .loop .i) (omega arith) (c .before .before .before .before .loop .inv .2) _ (c .before .own-row .ensures) (c .if2 .left))
 
--- src/lib.rt:370:1
 returns-3 : tie.Need-returns-3 Inv-loop μ-loop
 returns-3 c = sym (c .before .loop .inv .2 ∙ own-none (c .before .before .before .before .args .w .now) (c .before .loop .i) (omega arith))
 

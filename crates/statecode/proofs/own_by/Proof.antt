@@ -13,69 +13,54 @@ use Rattle.statecode.proofs.own_four.Reads as own-four-reads
 use Rattle.statecode.proofs.own_goal.Reads as own-goal-reads
 use Rattle.statecode.proofs.own_two.Reads as own-two-reads
 
--- src/lib.rt:426:14
 clear-1-requires : tie.Need-clear-1-requires
 clear-1-requires c κs = search needs
 
--- src/lib.rt:427:14
 own-goal-requires : tie.Need-own-goal-requires
 own-goal-requires c κs = search needs
 
--- src/lib.rt:427:28
 clear-4-requires : tie.Need-clear-4-requires
 clear-4-requires c κs = search needs
 
--- src/lib.rt:428:14
 own-goal-requires-2 : tie.Need-own-goal-requires-2
 own-goal-requires-2 c κs = search needs
 
--- src/lib.rt:428:28
 clear-7-requires : tie.Need-clear-7-requires
 clear-7-requires c κs = search needs
 
--- src/lib.rt:429:14
 own-two-requires : tie.Need-own-two-requires
 own-two-requires c κs = search needs
 
--- src/lib.rt:430:14
 own-four-requires : tie.Need-own-four-requires
 own-four-requires c κs = search needs
 
--- src/lib.rt:431:14
 own-four-requires-2 : tie.Need-own-four-requires-2
 own-four-requires-2 c κs = search needs
 
--- src/lib.rt:421:1
 returns : tie.Need-returns
 unfolding ownBy ifB
 returns c = simp (c .before .match .keys1, c .clear-1 .ensures)
 
--- src/lib.rt:421:1
 returns-2 : tie.Need-returns-2
 unfolding ownBy ifB
 returns-2 c = simp (c .before .before .match .keys2, c .before .own-goal .ensures, c .clear-4 .ensures)
 
--- src/lib.rt:421:1
 returns-3 : tie.Need-returns-3
 unfolding ownBy ifB
 returns-3 c = simp (c .before .before .match .keys3, c .before .own-goal2 .ensures, c .clear-7 .ensures)
 
--- src/lib.rt:421:1
 returns-4 : tie.Need-returns-4
 unfolding ownBy ifB
 returns-4 c = simp (c .before .match .keys4, c .own-two .ensures)
 
--- src/lib.rt:421:1
 returns-5 : tie.Need-returns-5
 unfolding ownBy ifB
 returns-5 c = simp (c .before .match .keys5, c .own-four .ensures)
 
--- src/lib.rt:421:1
 returns-6 : tie.Need-returns-6
 unfolding ownBy ifB
 returns-6 c = simp (c .before .match .keys6, c .own-four2 .ensures)
 
--- src/lib.rt:421:1
 returns-7 : tie.Need-returns-7
 unfolding ownBy ifB
 returns-7 c = simp (ne-eqb (c .before .before .args .f) 0 (c .match .rest .0 .0 .0 .0 .0 .1), ne-eqb (c .before .before .args .f) 1 (c .match .rest .0 .0 .0 .0 .1), ne-eqb (c .before .before .args .f) 2 (c .match .rest .0 .0 .0 .1), ne-eqb (c .before .before .args .f) 3 (c .match .rest .0 .0 .1), ne-eqb (c .before .before .args .f) 4 (c .match .rest .0 .1), ne-eqb (c .before .before .args .f) 5 (c .match .rest .1))

@@ -11,43 +11,34 @@ use Rattle.statecode.proofs.clear_13.Reads as clear-13-reads
 use Rattle.statecode.proofs.clear_7.Reads as clear-7-reads
 use Rattle.statecode.proofs.clear_9.Reads as clear-9-reads
 
--- src/lib.rt:412:14
 clear-7-requires : tie.Need-clear-7-requires
 clear-7-requires c κs = search needs
 
--- src/lib.rt:413:14
 clear-9-requires : tie.Need-clear-9-requires
 clear-9-requires c κs = search needs
 
--- src/lib.rt:414:14
 clear-11-requires : tie.Need-clear-11-requires
 clear-11-requires c κs = search needs
 
--- src/lib.rt:415:14
 clear-13-requires : tie.Need-clear-13-requires
 clear-13-requires c κs = search needs
 
--- src/lib.rt:407:1
 returns : tie.Need-returns
 unfolding ownFour ifB
 returns c = simp (c .before .match .keys1, c .clear-7 .ensures)
 
--- src/lib.rt:407:1
 returns-2 : tie.Need-returns-2
 unfolding ownFour ifB
 returns-2 c = simp (c .before .match .keys2, c .clear-9 .ensures)
 
--- src/lib.rt:407:1
 returns-3 : tie.Need-returns-3
 unfolding ownFour ifB
 returns-3 c = simp (c .before .match .keys3, c .clear-11 .ensures)
 
--- src/lib.rt:407:1
 returns-4 : tie.Need-returns-4
 unfolding ownFour ifB
 returns-4 c = simp (c .before .match .keys4, c .clear-13 .ensures)
 
--- src/lib.rt:407:1
 returns-5 : tie.Need-returns-5
 unfolding ownFour ifB
 returns-5 c = simp (ne-eqb (c .before .before .args .k) 0 (c .match .rest .0 .0 .0 .1), ne-eqb (c .before .before .args .k) 1 (c .match .rest .0 .0 .1), ne-eqb (c .before .before .args .k) 2 (c .match .rest .0 .1), ne-eqb (c .before .before .args .k) 3 (c .match .rest .1))

@@ -8,15 +8,12 @@ use Rattle.statecode.proofs.own_goal.Lts as lts
 use Rattle.statecode.proofs.goal_by.Reads as goal-by-reads
 use Rattle.statecode.proofs.goal_number.Reads as goal-number-reads
 
--- src/lib.rt:390:17
 goal-by-requires : tie.Need-goal-by-requires
 goal-by-requires c κs = search needs
 
--- src/lib.rt:390:5
 goal-number-requires : tie.Need-goal-number-requires
 goal-number-requires c κs = search needs
 
--- src/lib.rt:387:1
 returns : tie.Need-returns
 unfolding ownGoal
 returns c = rw (c .goal-number .ensures, c .before .goal-by .ensures) refl

@@ -7,19 +7,15 @@ use Rattle.statecode.proofs.own_row.Reads as reads
 use Rattle.statecode.proofs.own_row.Lts as lts
 use Rattle.statecode.proofs.own_by.Reads as own-by-reads
 
--- src/lib.rt:441:15
 shared-slice-read-own-by : tie.Need-shared-slice-read-own-by
 shared-slice-read-own-by c = search needs
 
--- src/lib.rt:441:21
 shared-slice-read-own-by-2 : tie.Need-shared-slice-read-own-by-2
 shared-slice-read-own-by-2 c = search needs
 
--- src/lib.rt:441:5
 own-by-requires : tie.Need-own-by-requires
 own-by-requires c κs = search needs
 
--- src/lib.rt:437:1
 returns : tie.Need-returns
 returns c = c .own-by .ensures ∙ row-rule (c .before .before .before .before .args .w .now) (c .before .before .before .before .pre)
 

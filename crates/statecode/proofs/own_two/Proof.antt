@@ -10,34 +10,27 @@ use Rattle.statecode.proofs.clear_11.Reads as clear-11-reads
 use Rattle.statecode.proofs.clear_7.Reads as clear-7-reads
 use Rattle.statecode.proofs.clear_9.Reads as clear-9-reads
 
--- src/lib.rt:399:14
 clear-7-requires : tie.Need-clear-7-requires
 clear-7-requires c κs = search needs
 
--- src/lib.rt:400:14
 clear-9-requires : tie.Need-clear-9-requires
 clear-9-requires c κs = search needs
 
--- src/lib.rt:401:14
 clear-11-requires : tie.Need-clear-11-requires
 clear-11-requires c κs = search needs
 
--- src/lib.rt:394:1
 returns : tie.Need-returns
 unfolding ownTwo ifB
 returns c = simp (c .before .match .keys1, c .clear-7 .ensures)
 
--- src/lib.rt:394:1
 returns-2 : tie.Need-returns-2
 unfolding ownTwo ifB
 returns-2 c = simp (c .before .match .keys2, c .clear-9 .ensures)
 
--- src/lib.rt:394:1
 returns-3 : tie.Need-returns-3
 unfolding ownTwo ifB
 returns-3 c = simp (c .before .match .keys3, c .clear-11 .ensures)
 
--- src/lib.rt:394:1
 returns-4 : tie.Need-returns-4
 unfolding ownTwo ifB
 returns-4 c = simp (ne-eqb (c .before .before .args .k) 0 (c .match .rest .0 .0 .1), ne-eqb (c .before .before .args .k) 1 (c .match .rest .0 .1), ne-eqb (c .before .before .args .k) 2 (c .match .rest .1))

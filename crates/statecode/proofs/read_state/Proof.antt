@@ -9,23 +9,18 @@ use Rattle.statecode.proofs.is_state.Reads as is-state-reads
 use Rattle.statecode.proofs.no_state.Reads as no-state-reads
 use Rattle.statecode.proofs.state_by.Reads as state-by-reads
 
--- src/lib.rt:381:9
 is-state-requires : tie.Need-is-state-requires
 is-state-requires c κs = search needs
 
--- src/lib.rt:382:9
 no-state-requires : tie.Need-no-state-requires
 no-state-requires c κs = search needs
 
--- src/lib.rt:382:9
 returns : tie.Need-returns
 returns c = c .no-state .ensures ∙ none-read (c .before .before .before .before .args .w .now) _ (c .before .before .is-state .ensures) (c .before .if1 .taken)
 
--- src/lib.rt:386:16
 state-by-requires : tie.Need-state-by-requires
 state-by-requires c κs = some-length (c .before .before .before .args .w .now) _ (c .before .is-state .ensures) (c .if1 .left)
 
--- src/lib.rt:378:1
 returns-2 : tie.Need-returns-2
 returns-2 c = some-read (c .before .before .before .before .args .w .now) _ (c .before .before .is-state .ensures) (c .before .if1 .left) _ (c .state-by .ensures)
 

@@ -8,27 +8,21 @@ use Rattle.statecode.proofs.put_ends.Reads as put-ends-reads
 use Rattle.statecode.proofs.put_row_at.Reads as put-row-at-reads
 use Rattle.statecode.proofs.row_of.Reads as row-of-reads
 
--- src/lib.rt:463:19
 mul-put-row-at : tie.Need-mul-put-row-at
 mul-put-row-at c = search needs
 
--- src/lib.rt:463:27
 row-of-requires : tie.Need-row-of-requires
 row-of-requires c κs = search needs
 
--- src/lib.rt:463:5
 put-row-at-requires : tie.Need-put-row-at-requires
 put-row-at-requires c κs = search needs
 
--- src/lib.rt:464:5
 put-ends-requires : tie.Need-put-ends-requires
 put-ends-requires c κs = search needs
 
--- src/lib.rt:459:1
 same-length : tie.Need-same-length
 same-length c = search needs
 
--- src/lib.rt:459:1
 returns : tie.Need-returns
 returns c = (stored-by (c .before .before .before .before .before .before .before .before .before .before .args .w .now) _ _ (c .before .before .before .before .before .before .before .before .before .before .args .i) (c .before .before .before .before .before .before .before .before .before .before .args .k) (c .before .before .before .before .before .before .before .before .before .before .args .m) (c .before .before .before .before .before .before .before .before .before .before .args .u) _ (c .before .before .before .before .before .before .before .before .before .before .pre .1) (c .before .before .before .before .before .before .before .before .before .before .pre .2) (c .before .before .before .before .before .before .before .row-of .ensures) (c .before .before .before .before .before .before .put-row-at .ensures) (c .before .before .put-ends .ensures), stored-own (c .before .before .before .before .before .before .before .before .before .before .args .w .now) _ _ (c .before .before .before .before .before .before .before .before .before .before .args .i) (c .before .before .before .before .before .before .before .before .before .before .args .k) (c .before .before .before .before .before .before .before .before .before .before .args .m) (c .before .before .before .before .before .before .before .before .before .before .args .u) _ (c .before .before .before .before .before .before .before .before .before .before .pre .1) (c .before .before .before .before .before .before .before .before .before .before .pre .2) (c .before .before .before .before .before .before .before .row-of .ensures) (c .before .before .before .before .before .before .put-row-at .ensures) (c .before .before .put-ends .ensures))
 

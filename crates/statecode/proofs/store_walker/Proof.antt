@@ -8,95 +8,72 @@ use Rattle.statecode.proofs.store_walker.Tie as tie
 use Rattle.statecode.proofs.store_walker.Reads as reads
 use Rattle.statecode.proofs.store_walker.Lts as lts
 
--- src/lib.rt:617:13
 mul-b : tie.Need-mul-b
 mul-b c = search needs
 
--- src/lib.rt:618:5
 mul-w : tie.Need-mul-w
 mul-w c = search needs
 
--- src/lib.rt:618:5
 slice-write-w : tie.Need-slice-write-w
 slice-write-w c = search needs
 
--- src/lib.rt:619:7
 add-w : tie.Need-add-w
 add-w c = search needs
 
--- src/lib.rt:619:5
 mul-w-2 : tie.Need-mul-w-2
 mul-w-2 c = search needs
 
--- src/lib.rt:619:5
 slice-write-w-2 : tie.Need-slice-write-w-2
 slice-write-w-2 c = simp length-set (omega arith)
 
--- src/lib.rt:620:7
 add-w-2 : tie.Need-add-w-2
 add-w-2 c = search needs
 
--- src/lib.rt:620:5
 mul-w-3 : tie.Need-mul-w-3
 mul-w-3 c = search needs
 
--- src/lib.rt:620:5
 slice-write-w-3 : tie.Need-slice-write-w-3
 slice-write-w-3 c = simp length-set (omega arith)
 
--- src/lib.rt:621:7
 add-w-3 : tie.Need-add-w-3
 add-w-3 c = search needs
 
--- src/lib.rt:621:5
 mul-w-4 : tie.Need-mul-w-4
 mul-w-4 c = search needs
 
--- src/lib.rt:621:5
 slice-write-w-4 : tie.Need-slice-write-w-4
 slice-write-w-4 c = simp length-set (omega arith)
 
--- src/lib.rt:622:7
 add-w-4 : tie.Need-add-w-4
 add-w-4 c = search needs
 
--- src/lib.rt:622:5
 mul-w-5 : tie.Need-mul-w-5
 mul-w-5 c = search needs
 
--- src/lib.rt:622:5
 slice-write-w-5 : tie.Need-slice-write-w-5
 slice-write-w-5 c = simp length-set (omega arith)
 
--- src/lib.rt:623:7
 add-w-5 : tie.Need-add-w-5
 add-w-5 c = search needs
 
--- src/lib.rt:623:5
 mul-w-6 : tie.Need-mul-w-6
 mul-w-6 c = search needs
 
--- src/lib.rt:623:5
 slice-write-w-6 : tie.Need-slice-write-w-6
 slice-write-w-6 c = simp length-set (omega arith)
 
--- src/lib.rt:624:7
 add-w-6 : tie.Need-add-w-6
 add-w-6 c = search needs
 
--- src/lib.rt:624:5
 mul-w-7 : tie.Need-mul-w-7
 mul-w-7 c = search needs
 
--- src/lib.rt:624:5
 slice-write-w-7 : tie.Need-slice-write-w-7
 slice-write-w-7 c = simp length-set (omega arith)
 
--- src/lib.rt:613:1
 same-length : tie.Need-same-length
 same-length c = search needs
 
--- src/lib.rt:613:1
 returns : tie.Need-returns
 unfolding putFirst
 returns c = refl

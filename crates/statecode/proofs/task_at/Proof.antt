@@ -8,31 +8,24 @@ use Rattle.statecode.proofs.task_at.Reads as reads
 use Rattle.statecode.proofs.task_at.Lts as lts
 use Rattle.statecode.proofs.task_by.Reads as task-by-reads
 
--- src/lib.rt:404:16
 mul-task-by : tie.Need-mul-task-by
 mul-task-by c = search needs
 
--- src/lib.rt:404:13
 mul-task-by-2 : tie.Need-mul-task-by-2
 mul-task-by-2 c = search needs
 
--- src/lib.rt:404:13
 sub-task-by : tie.Need-sub-task-by
 sub-task-by c = search needs
 
--- src/lib.rt:404:13
 part-task-by-start : tie.Need-part-task-by-start
 part-task-by-start c = search needs
 
--- src/lib.rt:404:13
 part-task-by-end : tie.Need-part-task-by-end
 part-task-by-end c = search needs
 
--- src/lib.rt:404:5
 task-by-requires : tie.Need-task-by-requires
 task-by-requires c κs = search needs
 
--- src/lib.rt:400:1
 returns : tie.Need-returns
 returns c = c .task-by .ensures ∙ part-task (c .before .before .before .args .w .now) (c .before .before .before .args .i) (omega arith)
 

@@ -9,31 +9,24 @@ use Rattle.statecode.proofs.walker_at.Reads as reads
 use Rattle.statecode.proofs.walker_at.Lts as lts
 use Rattle.statecode.proofs.walker_by.Reads as walker-by-reads
 
--- src/lib.rt:609:18
 mul-walker-by : tie.Need-mul-walker-by
 mul-walker-by c = search needs
 
--- src/lib.rt:609:15
 mul-walker-by-2 : tie.Need-mul-walker-by-2
 mul-walker-by-2 c = search needs
 
--- src/lib.rt:609:15
 sub-walker-by : tie.Need-sub-walker-by
 sub-walker-by c = search needs
 
--- src/lib.rt:609:15
 part-walker-by-start : tie.Need-part-walker-by-start
 part-walker-by-start c = search needs
 
--- src/lib.rt:609:15
 part-walker-by-end : tie.Need-part-walker-by-end
 part-walker-by-end c = search needs
 
--- src/lib.rt:609:5
 walker-by-requires : tie.Need-walker-by-requires
 walker-by-requires c κs = search needs
 
--- src/lib.rt:605:1
 returns : tie.Need-returns
 returns c = c .walker-by .ensures ∙ ap walkerBy (part-all (c .before .before .before .args .w .now) (15 * (c .before .before .before .args .i)))
 

@@ -6,23 +6,18 @@ use Rattle.statecode.proofs.walker_by.Lts as lts
 use Rattle.statecode.proofs.job_by.Reads as job-by-reads
 use Rattle.statecode.proofs.path_by.Reads as path-by-reads
 
--- src/lib.rt:595:9
 path-by-requires : tie.Need-path-by-requires
 path-by-requires c κs = search needs
 
--- src/lib.rt:597:16
 shared-slice-read-t4 : tie.Need-shared-slice-read-t4
 shared-slice-read-t4 c = search needs
 
--- src/lib.rt:598:14
 job-by-requires : tie.Need-job-by-requires
 job-by-requires c κs = search needs
 
--- src/lib.rt:599:15
 shared-slice-read-t7 : tie.Need-shared-slice-read-t7
 shared-slice-read-t7 c = search needs
 
--- src/lib.rt:591:1
 returns : tie.Need-returns
 returns c = simp (c .before .job-by .ensures, c .before .before .before .path-by .ensures)
 

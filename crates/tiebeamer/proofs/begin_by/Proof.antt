@@ -15,67 +15,51 @@ use Rattle.statecode.proofs.no_path.Reads as no-path-reads
 use Rattle.statecode.proofs.store_walker.Reads as store-walker-reads
 use Rattle.statecode.proofs.walker_at.Reads as walker-at-reads
 
--- src/lib.rt:85:9
 length-fits-requires : tie.Need-length-fits-requires
 length-fits-requires c κs = search needs
 
--- src/lib.rt:86:9
 returns : tie.Need-returns
 returns c = (begin-length (c .before .before .before .before .args .t .now) _ _ _ (c .before .length-fits .ensures) _ _ (c .if1 .taken), c .before .before .before .before .pre .1)
 
--- src/lib.rt:89:9
 returns-2 : tie.Need-returns-2
 returns-2 c = (begin-number (c .before .before .before .before .before .args .t .now) _ _ _ (c .before .before .length-fits .ensures) (c .before .if1 .left) _ _ (c .if2 .taken), c .before .before .before .before .before .pre .1)
 
--- src/lib.rt:91:9
 ask-fits-requires : tie.Need-ask-fits-requires
 ask-fits-requires c κs = search needs
 
--- src/lib.rt:92:9
 returns-3 : tie.Need-returns-3
 returns-3 c = (begin-range (c .before .before .before .before .before .before .before .args .t .now) _ _ _ (c .before .before .before .before .length-fits .ensures) (c .before .before .before .if1 .left) (omega arith) _ _ _ (c .before .ask-fits .ensures) (c .if3 .taken), c .before .before .before .before .before .before .before .pre .1)
 
--- src/lib.rt:95:9
 walker-at-requires : tie.Need-walker-at-requires
 walker-at-requires c κs = search needs
 
--- src/lib.rt:97:9
 same-length : tie.Need-same-length
 same-length c = search needs
 
--- src/lib.rt:97:9
 returns-4 : tie.Need-returns-4
 returns-4 c = (begin-busy (c .before .before .before .before .before .before .before .before .before .before .before .args .t .now) _ _ _ (c .before .before .before .before .before .before .before .before .length-fits .ensures) (c .before .before .before .before .before .before .before .if1 .left) (omega arith) _ _ _ (c .before .before .before .before .before .ask-fits .ensures) (c .before .before .before .before .if3 .left) _ refl _ (is-busy (c .before .before .before .before .before .before .before .before .before .before .before .args .w .now) _ (omega arith) _ (c .before .before .walker-at .ensures) (c .if4 .taken)) refl, c .before .before .before .before .before .before .before .before .before .before .before .pre .1)
 
--- src/lib.rt:99:9
 is-sound-by-requires : tie.Need-is-sound-by-requires
 is-sound-by-requires c κs = search needs
 
--- src/lib.rt:100:9
 same-length-2 : tie.Need-same-length-2
 same-length-2 c = search needs
 
--- src/lib.rt:100:9
 returns-5 : tie.Need-returns-5
 returns-5 c = (begin-damaged (c .before .before .before .before .before .before .before .before .before .before .before .before .before .before .args .t .now) _ _ _ (c .before .before .before .before .before .before .before .before .before .before .before .length-fits .ensures) (c .before .before .before .before .before .before .before .before .before .before .if1 .left) (omega arith) _ _ _ (c .before .before .before .before .before .before .before .before .ask-fits .ensures) (c .before .before .before .before .before .before .before .if3 .left) _ refl _ (not-busy (c .before .before .before .before .before .before .before .before .before .before .before .before .before .before .args .w .now) _ (omega arith) _ (c .before .before .before .before .before .walker-at .ensures) (c .before .before .before .if4 .left)) refl _ (c .before .is-sound-by .ensures) (c .if5 .taken), c .before .before .before .before .before .before .before .before .before .before .before .before .before .before .pre .1)
 
--- src/lib.rt:102:31
 goal-number-requires : tie.Need-goal-number-requires
 goal-number-requires c κs = search needs
 
--- src/lib.rt:102:60
 no-path-requires : tie.Need-no-path-requires
 no-path-requires c κs = search needs
 
--- src/lib.rt:102:5
 store-walker-requires : tie.Need-store-walker-requires
 store-walker-requires c κs = search needs
 
--- src/lib.rt:81:1
 same-length-3 : tie.Need-same-length-3
 same-length-3 c = search needs
 
--- src/lib.rt:81:1
 returns-6 : tie.Need-returns-6
 returns-6 c = (begin-done (c .before .before .before .before .before .before .before .before .before .before .before .before .before .before .before .before .before .before .before .before .args .t .now) _ _ _ (c .before .before .before .before .before .before .before .before .before .before .before .before .before .before .before .before .before .length-fits .ensures) (c .before .before .before .before .before .before .before .before .before .before .before .before .before .before .before .before .if1 .left) (omega arith) _ _ _ (c .before .before .before .before .before .before .before .before .before .before .before .before .before .before .ask-fits .ensures) (c .before .before .before .before .before .before .before .before .before .before .before .before .before .if3 .left) _ refl _ (not-busy (c .before .before .before .before .before .before .before .before .before .before .before .before .before .before .before .before .before .before .before .before .args .w .now) _ (omega arith) _ (c .before .before .before .before .before .before .before .before .before .before .before .walker-at .ensures) (c .before .before .before .before .before .before .before .before .before .if4 .left)) refl _ (c .before .before .before .before .before .before .before .is-sound-by .ensures) (c .before .before .before .before .before .before .if5 .left) _ refl _ (begun-stored (c .before .before .before .before .before .before .before .before .before .before .before .before .before .before .before .before .before .before .before .before .args .w .now) _ (omega arith) _ (c .before .before .before .before .before .before .before .before .before .before .before .walker-at .ensures) (c .before .before .before .before .before .before .before .before .before .before .before .before .before .before .before .before .before .before .before .before .pre .1) (c .before .before .before .before .before .before .before .before .before .if4 .left) (c .before .before .before .before .before .before .before .before .before .before .before .before .before .before .before .before .before .before .before .before .args .o) (c .before .before .before .before .before .before .before .before .before .before .before .before .before .before .before .before .before .before .before .before .args .j) _ (c .before .before .before .before .goal-number .ensures) _ (c .before .before .before .no-path .ensures) _ (c .before .before .store-walker .ensures)), begun-own (c .before .before .before .before .before .before .before .before .before .before .before .before .before .before .before .before .before .before .before .before .args .w .now) _ (omega arith) _ (c .before .before .before .before .before .before .before .before .before .before .before .walker-at .ensures) (c .before .before .before .before .before .before .before .before .before .before .before .before .before .before .before .before .before .before .before .before .pre .1) (c .before .before .before .before .before .before .before .before .before .if4 .left) (c .before .before .before .before .before .before .before .before .before .before .before .before .before .before .before .before .before .before .before .before .args .o) (c .before .before .before .before .before .before .before .before .before .before .before .before .before .before .before .before .before .before .before .before .args .j) _ (c .before .before .before .before .goal-number .ensures) _ (c .before .before .before .no-path .ensures) _ (c .before .before .store-walker .ensures))
 

@@ -6,12 +6,10 @@ use Rattle.tiebeamer.proofs.from_of.Tie as tie
 use Rattle.tiebeamer.proofs.from_of.Reads as reads
 use Rattle.tiebeamer.proofs.from_of.Lts as lts
 
--- src/lib.rt:154:9
 returns : tie.Need-returns
 unfolding fromOf ifB
 returns c = simp (eq-eqb _ _ (c .if1 .taken))
 
--- src/lib.rt:150:1
 returns-2 : tie.Need-returns-2
 unfolding fromOf ifB
 returns-2 c = simp (ne-eqb _ _ (c .if1 .left))

@@ -22,39 +22,30 @@ Inv-loop t₀ w₀ i count left₀ t w left = (1 ≤ left) × (left ≤ count) �
 abbrev μ-loop : tie.MeasureT-loop
 μ-loop t₀ w₀ i count left₀ t w left = left
 
--- src/lib.rt:158:5
 loop-holds : tie.Need-loop-holds Inv-loop μ-loop
 loop-holds c = (c .before .before .pre .2, omega arith, refl, refl, c .before .before .pre .1, c .before .before .pre .0)
 
--- src/lib.rt:159:13
 step-by-requires : tie.Need-step-by-requires Inv-loop μ-loop
 step-by-requires c κs = (c .before .before .loop .inv .5, c .before .before .loop .inv .4)
 
--- src/lib.rt:160:19
 number-of-requires : tie.Need-number-of-requires Inv-loop μ-loop
 number-of-requires c κs = search needs
 
--- src/lib.rt:162:13
 same-length : tie.Need-same-length Inv-loop μ-loop
 same-length c = c .before .before .before .before .before .before .step-by .kept .0 ∙ c .before .before .before .before .before .before .before .before .before .loop .inv .3
 
--- src/lib.rt:162:13
 same-length-2 : tie.Need-same-length-2 Inv-loop μ-loop
 same-length-2 c = own-length _ (c .before .before .before .before .before .before .step-by .ensures .1) ∙ sym (c .before .before .before .before .before .before .before .before .before .before .before .before .pre .0)
 
--- src/lib.rt:162:13
 returns : tie.Need-returns Inv-loop μ-loop
 returns c = (run-ends _ _ _ _ (outBy _ _) (c .before .before .before .before .before .before .step-by .ensures .0) _ (c .before .number-of .ensures) _ (c .before .before .before .before .before .before .before .before .before .loop .inv .0) (c .if1 .taken) ∙ sym (c .before .before .before .before .before .before .before .before .before .loop .inv .2), c .before .before .before .before .before .before .step-by .ensures .1)
 
--- src/lib.rt:164:9
 sub-left : tie.Need-sub-left Inv-loop μ-loop
 sub-left c = omega arith
 
--- src/lib.rt:158:5
 loop-less : tie.Need-loop-less Inv-loop μ-loop
 loop-less c = omega arith
 
--- src/lib.rt:158:5
 loop-again : tie.Need-loop-again Inv-loop μ-loop
 loop-again c = let m = run-more _ _ _ _ (outBy _ _) (c .before .before .before .before .before .before .step-by .ensures .0) _ (c .before .number-of .ensures) _ (c .before .before .before .before .before .before .before .before .before .loop .inv .0) (c .if1 .left) in (omega arith, omega arith, c .before .before .before .before .before .before .before .before .before .loop .inv .2 ∙ run-on _ _ _ _ (outBy _ _) (c .before .before .before .before .before .before .step-by .ensures .0) _ (c .before .number-of .ensures) _ (c .before .before .before .before .before .before .before .before .before .loop .inv .0) (c .if1 .left), c .before .before .before .before .before .before .step-by .kept .0 ∙ c .before .before .before .before .before .before .before .before .before .loop .inv .3, c .before .before .before .before .before .before .step-by .ensures .1, own-length _ (c .before .before .before .before .before .before .step-by .ensures .1))
 

@@ -16,59 +16,45 @@ use Rattle.statecode.proofs.walker_at.Reads as walker-at-reads
 use Rattle.tiebeamer.proofs.step_work_by.Reads as step-work-by-reads
 use Rattle.tiebeamer.proofs.walk_by.Reads as walk-by-reads
 
--- src/lib.rt:231:9
 length-fits-requires : tie.Need-length-fits-requires
 length-fits-requires c κs = search needs
 
--- src/lib.rt:232:9
 returns : tie.Need-returns
 returns c = (search step-by-rows depth 12, c .before .before .before .before .pre .1)
 
--- src/lib.rt:235:9
 returns-2 : tie.Need-returns-2
 returns-2 c = (search step-by-rows depth 12, c .before .before .before .before .before .pre .1)
 
--- src/lib.rt:238:9
 slots-of-requires : tie.Need-slots-of-requires
 slots-of-requires c κs = search (fits-most) depth 12
 
--- src/lib.rt:239:9
 walker-at-requires : tie.Need-walker-at-requires
 walker-at-requires c κs = search needs
 
--- src/lib.rt:241:9
 walk-by-requires : tie.Need-walk-by-requires
 walk-by-requires c κs = ((rw (c .before .before .before .before .before .before .before .slots-of .ensures) (search (sixes) depth 12), rw (c .before .before .before .before .before .before .before .slots-of .ensures) (search (slots-most) depth 12)), c .before .before .before .before .before .before .before .slots-of .ensures, (c .before .before .before .before .before .before .before .before .before .before .before .before .before .pre .0, c .before .before .before .before .before .before .before .before .before .before .before .before .before .pre .1, omega arith, c .before .before .before .before .before .walker-at .ensures, low-phase _ ((c .before .before .if3 .taken)), high-phase _ ((c .before .before .if3 .taken))))
 
--- src/lib.rt:241:9
 same-length : tie.Need-same-length
 same-length c = search needs
 
--- src/lib.rt:241:9
 same-length-2 : tie.Need-same-length-2
 same-length-2 c = search needs
 
--- src/lib.rt:241:9
 returns-3 : tie.Need-returns-3
 returns-3 c = (goes-at _ _ _ _ (c .before .before .before .before .before .before .before .before .before .before .before .before .before .length-fits .ensures) (c .before .before .before .before .before .before .before .before .before .before .before .before .if1 .left) (omega arith) _ _ _ refl (c .before .before .walk-by .ensures .0), c .before .before .walk-by .ensures .1)
 
--- src/lib.rt:243:9
 task-at-requires : tie.Need-task-at-requires
 task-at-requires c κs = search needs
 
--- src/lib.rt:245:5
 step-work-by-requires : tie.Need-step-work-by-requires
 step-work-by-requires c κs = ((rw (c .before .before .before .before .before .before .before .before .before .slots-of .ensures) (search (sixes) depth 12), rw (c .before .before .before .before .before .before .before .before .before .slots-of .ensures) (search (slots-most) depth 12)), c .before .before .before .before .before .before .before .before .before .slots-of .ensures, c .before .before .before .before .before .before .before .before .before .before .before .before .before .before .before .pre .0, c .before .before .before .before .before .before .before .before .before .before .before .before .before .before .before .pre .1, omega arith)
 
--- src/lib.rt:226:1
 same-length-3 : tie.Need-same-length-3
 same-length-3 c = search needs
 
--- src/lib.rt:226:1
 same-length-4 : tie.Need-same-length-4
 same-length-4 c = search needs
 
--- src/lib.rt:226:1
 returns-4 : tie.Need-returns-4
 returns-4 c = (search step-by-rows depth 12, c .before .before .before .before .step-work-by .ensures .1)
 

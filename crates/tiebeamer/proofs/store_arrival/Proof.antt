@@ -8,99 +8,75 @@ use Rattle.tiebeamer.proofs.store_arrival.Lts as lts
 use Rattle.statecode.proofs.store_walker.Reads as store-walker-reads
 use Rattle.tiebeamer.proofs.store_turn.Reads as store-turn-reads
 
--- src/lib.rt:176:26
 enum-told : tie.Need-enum-told
 enum-told c = search needs
 
--- src/lib.rt:178:26
 enum-told-2 : tie.Need-enum-told-2
 enum-told-2 c = search needs
 
--- src/lib.rt:178:13
 store-walker-requires : tie.Need-store-walker-requires
 store-walker-requires c κs = search needs
 
--- src/lib.rt:182:26
 enum-told-3 : tie.Need-enum-told-3
 enum-told-3 c = search needs
 
--- src/lib.rt:182:13
 store-walker-requires-2 : tie.Need-store-walker-requires-2
 store-walker-requires-2 c κs = search needs
 
--- src/lib.rt:186:26
 enum-told-4 : tie.Need-enum-told-4
 enum-told-4 c = search needs
 
--- src/lib.rt:186:13
 store-walker-requires-3 : tie.Need-store-walker-requires-3
 store-walker-requires-3 c κs = search needs
 
--- src/lib.rt:190:26
 enum-told-5 : tie.Need-enum-told-5
 enum-told-5 c = search needs
 
--- src/lib.rt:190:13
 store-walker-requires-4 : tie.Need-store-walker-requires-4
 store-walker-requires-4 c κs = search needs
 
--- src/lib.rt:193:23
 enum-known-a : tie.Need-enum-known-a
 enum-known-a c = search needs
 
--- src/lib.rt:194:21
 slice-read-m : tie.Need-slice-read-m
 slice-read-m c = search needs
 
--- src/lib.rt:195:21
 slice-read-u : tie.Need-slice-read-u
 slice-read-u c = search needs
 
--- src/lib.rt:196:13
 store-turn-requires : tie.Need-store-turn-requires
 store-turn-requires c κs = (c .before .before .before .before .before .before .before .before .pre .0 .0, c .before .before .before .before .before .before .before .before .pre .0 .1, c .before .before .before .before .before .before .before .before .pre .0 .2, m-by _, u-by _, c .before .before .before .before .before .before .before .before .pre .1, c .before .before .before .before .before .before .before .before .pre .2)
 
--- src/lib.rt:170:1
 returns : tie.Need-returns
 returns c = lost-stored (c .before .before .before .before .args .w .now) (c .before .before .before .before .args .i) (c .before .before .before .before .args .k) (c .before .before .before .before .pre .0) (c .before .before .before .before .args .q) (c .before .before .before .before .args .a) (c .enum-told .given .1)
 
--- src/lib.rt:170:1
 same-length : tie.Need-same-length
 same-length c = search needs
 
--- src/lib.rt:170:1
 returns-2 : tie.Need-returns-2
 returns-2 c = on-stored (c .before .before .before .before .before .before .before .before .args .w .now) (c .before .before .before .before .before .before .before .before .args .i) (c .before .before .before .before .before .before .before .before .args .k) (c .before .before .before .before .before .before .before .before .pre .0) (c .before .before .before .before .before .before .before .before .args .q) (c .before .before .before .before .before .before .before .before .args .a) (c .before .before .before .before .enum-told2 .given .1) _ (c .before .before .store-walker .ensures)
 
--- src/lib.rt:170:1
 same-length-2 : tie.Need-same-length-2
 same-length-2 c = search needs
 
--- src/lib.rt:170:1
 returns-3 : tie.Need-returns-3
 returns-3 c = puts-stored (c .before .before .before .before .before .before .before .before .args .w .now) (c .before .before .before .before .before .before .before .before .args .i) (c .before .before .before .before .before .before .before .before .args .k) (c .before .before .before .before .before .before .before .before .pre .0) (c .before .before .before .before .before .before .before .before .args .q) (c .before .before .before .before .before .before .before .before .args .a) (c .before .before .before .before .enum-told3 .given .1) _ (c .before .before .store-walker2 .ensures)
 
--- src/lib.rt:170:1
 same-length-3 : tie.Need-same-length-3
 same-length-3 c = search needs
 
--- src/lib.rt:170:1
 returns-4 : tie.Need-returns-4
 returns-4 c = takes-stored (c .before .before .before .before .before .before .before .before .args .w .now) (c .before .before .before .before .before .before .before .before .args .i) (c .before .before .before .before .before .before .before .before .args .k) (c .before .before .before .before .before .before .before .before .pre .0) (c .before .before .before .before .before .before .before .before .args .q) (c .before .before .before .before .before .before .before .before .args .a) (c .before .before .before .before .enum-told4 .given .1) _ (c .before .before .store-walker3 .ensures)
 
--- src/lib.rt:170:1
 same-length-4 : tie.Need-same-length-4
 same-length-4 c = search needs
 
--- src/lib.rt:170:1
 returns-5 : tie.Need-returns-5
 returns-5 c = settles-stored (c .before .before .before .before .before .before .before .before .args .w .now) (c .before .before .before .before .before .before .before .before .args .i) (c .before .before .before .before .before .before .before .before .args .k) (c .before .before .before .before .before .before .before .before .pre .0) (c .before .before .before .before .before .before .before .before .args .q) (c .before .before .before .before .before .before .before .before .args .a) (c .before .before .before .before .enum-told5 .given .1) _ (c .before .before .store-walker4 .ensures)
 
--- src/lib.rt:170:1
 same-length-5 : tie.Need-same-length-5
 same-length-5 c = search needs
 
--- src/lib.rt:170:1
 returns-6 : tie.Need-returns-6
 returns-6 c = ends-stored (c .before .before .before .before .before .before .before .before .before .before .before .args .w .now) (c .before .before .before .before .before .before .before .before .before .before .before .args .i) (c .before .before .before .before .before .before .before .before .before .before .before .args .k) (c .before .before .before .before .before .before .before .before .before .before .before .pre .0) (c .before .before .before .before .before .before .before .before .before .before .before .args .q) (c .before .before .before .before .before .before .before .before .before .before .before .args .a) _ (c .before .before .before .before .before .before .before .a .given .1) _ _ (c .before .before .store-turn .ensures .0) (c .before .before .store-turn .ensures .1)
 

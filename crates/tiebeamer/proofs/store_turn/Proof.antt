@@ -10,71 +10,54 @@ use Rattle.state.proofs.number_of.Reads as number-of-reads
 use Rattle.state.proofs.one_if.Reads as one-if-reads
 use Rattle.statecode.proofs.store_task.Reads as store-task-reads
 
--- src/lib.rt:101:23
 enum-told : tie.Need-enum-told
 enum-told c = search needs
 
--- src/lib.rt:102:20
 enum-known-a : tie.Need-enum-known-a
 enum-known-a c = search needs
 
--- src/lib.rt:103:37
 one-if-requires : tie.Need-one-if-requires
 one-if-requires c κs = search needs
 
--- src/lib.rt:103:33
 add-store-task : tie.Need-add-store-task
 add-store-task c = search needs
 
--- src/lib.rt:103:13
 store-task-requires : tie.Need-store-task-requires
 store-task-requires c κs = search needs
 
--- src/lib.rt:106:20
 enum-known-a-2 : tie.Need-enum-known-a-2
 enum-known-a-2 c = search needs
 
--- src/lib.rt:107:31
 number-of-requires : tie.Need-number-of-requires
 number-of-requires c κs = search needs
 
--- src/lib.rt:107:17
 one-if-requires-2 : tie.Need-one-if-requires-2
 one-if-requires-2 c κs = search needs
 
--- src/lib.rt:108:61
 one-if-requires-3 : tie.Need-one-if-requires-3
 one-if-requires-3 c κs = search needs
 
--- src/lib.rt:108:57
 add-store-task-2 : tie.Need-add-store-task-2
 add-store-task-2 c = search needs
 
--- src/lib.rt:108:80
 add-store-task-3 : tie.Need-add-store-task-3
 add-store-task-3 c = search needs
 
--- src/lib.rt:108:13
 store-task-requires-2 : tie.Need-store-task-requires-2
 store-task-requires-2 c κs = search needs
 
--- src/lib.rt:96:1
 returns : tie.Need-returns
 returns c = (hurt-turn (stateBy (c .before .before .before .args .w .now)) (c .before .before .before .args .i) (c .before .before .before .args .a) (c .before .before .before .args .committed) (c .enum-told .given .1), c .before .before .before .pre .1)
 
--- src/lib.rt:96:1
 same-length : tie.Need-same-length
 same-length c = search needs
 
--- src/lib.rt:96:1
 returns-2 : tie.Need-returns-2
 returns-2 c = (next-turn (stateBy (c .before .before .before .before .before .before .before .before .before .args .w .now)) (c .before .before .before .before .before .before .before .before .before .args .i) (c .before .before .before .before .before .before .before .before .before .args .a) (c .before .before .before .before .before .before .before .before .before .args .committed) (c .before .before .before .before .before .before .before .before .before .args .m) (c .before .before .before .before .before .before .before .before .before .args .u) _ (c .before .before .before .before .before .before .before .before .before .pre .3) (c .before .before .before .before .before .before .before .before .before .pre .4) (c .before .before .before .one-if .ensures .0) _ _ (c .before .before .before .before .before .before .a .given .1) (c .before .before .store-task .ensures .0), c .before .before .store-task .ensures .1)
 
--- src/lib.rt:96:1
 same-length-2 : tie.Need-same-length-2
 same-length-2 c = search needs
 
--- src/lib.rt:96:1
 returns-3 : tie.Need-returns-3
 returns-3 c = (done-turn (stateBy (c .before .before .before .before .before .before .before .before .before .before .before .args .w .now)) (c .before .before .before .before .before .before .before .before .before .before .before .args .i) (c .before .before .before .before .before .before .before .before .before .before .before .args .a) (c .before .before .before .before .before .before .before .before .before .before .before .args .committed) (c .before .before .before .before .before .before .before .before .before .before .before .args .m) (c .before .before .before .before .before .before .before .before .before .before .before .args .u) _ (c .before .before .before .before .before .before .before .before .before .before .before .pre .3) (c .before .before .before .before .before .before .before .before .before .before .before .pre .4) (c .before .before .before .one-if3 .ensures .0) _ _ (c .before .before .before .before .before .before .before .before .a2 .given .1) _ (c .before .before .before .before .before .one-if2 .ensures .0 ∙ rw (c .before .before .before .before .before .before .number-of .ensures) refl) (c .before .before .store-task2 .ensures .0), c .before .before .store-task2 .ensures .1)
 

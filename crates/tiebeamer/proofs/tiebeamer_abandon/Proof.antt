@@ -9,31 +9,24 @@ use Rattle.state.proofs.number_of.Reads as number-of-reads
 use Rattle.statecode.proofs.is_state.Reads as is-state-reads
 use Rattle.tiebeamer.proofs.abandon_by.Reads as abandon-by-reads
 
--- src/lib.rt:364:9
 is-state-requires : tie.Need-is-state-requires
 is-state-requires c κs = search needs
 
--- src/lib.rt:365:9
 same-length : tie.Need-same-length
 same-length c = search needs
 
--- src/lib.rt:365:9
 returns : tie.Need-returns
 returns c = abandon-no-state (c .before .before .before .before .before .args .table .now) (c .before .before .before .before .before .args .state .now) _ (c .before .is-state .ensures) (c .if1 .taken) _
 
--- src/lib.rt:367:9
 abandon-by-requires : tie.Need-abandon-by-requires
 abandon-by-requires c κs = (some-length _ _ (c .before .before .is-state .ensures) (c .before .if1 .left), is-own (c .before .before .before .before .before .before .args .table .now) (c .before .before .before .before .before .before .args .state .now) _ (c .before .before .is-state .ensures) (c .before .if1 .left))
 
--- src/lib.rt:368:5
 number-of-requires : tie.Need-number-of-requires
 number-of-requires c κs = search needs
 
--- src/lib.rt:360:1
 same-length-2 : tie.Need-same-length-2
 same-length-2 c = search needs
 
--- src/lib.rt:360:1
 returns-2 : tie.Need-returns-2
 returns-2 c = abandon-stored (c .before .before .before .before .before .before .before .before .before .before .args .table .now) (c .before .before .before .before .before .before .before .before .before .before .args .state .now) _ (c .before .before .before .before .before .before .is-state .ensures) (c .before .before .before .before .before .if1 .left) _ _ (c .before .before .before .abandon-by .ensures .1) _ (c .number-of .ensures) _ (c .before .before .before .abandon-by .ensures .0)
 

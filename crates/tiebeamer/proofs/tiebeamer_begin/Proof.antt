@@ -10,43 +10,33 @@ use Rattle.state.proofs.number_of.Reads as number-of-reads
 use Rattle.statecode.proofs.is_state.Reads as is-state-reads
 use Rattle.tiebeamer.proofs.begin_by.Reads as begin-by-reads
 
--- src/lib.rt:118:9
 is-state-requires : tie.Need-is-state-requires
 is-state-requires c κs = search needs
 
--- src/lib.rt:119:9
 same-length : tie.Need-same-length
 same-length c = search needs
 
--- src/lib.rt:119:9
 returns : tie.Need-returns
 returns c = begin-no-state (c .before .before .before .before .before .args .table .now) (c .before .before .before .before .before .args .state .now) _ (c .before .is-state .ensures) (c .if1 .taken) _ _ _ _
 
--- src/lib.rt:122:9
 same-length-2 : tie.Need-same-length-2
 same-length-2 c = search needs
 
--- src/lib.rt:122:9
 returns-2 : tie.Need-returns-2
 returns-2 c = begin-no-call (c .before .before .before .before .before .before .args .table .now) (c .before .before .before .before .before .before .args .state .now) _ (c .before .before .is-state .ensures) (c .before .if1 .left) _ _ _ _ (c .if2 .taken)
 
--- src/lib.rt:128:42
 operation-of-requires : tie.Need-operation-of-requires
 operation-of-requires c κs = search needs
 
--- src/lib.rt:128:9
 begin-by-requires : tie.Need-begin-by-requires
 begin-by-requires c κs = (some-length _ _ (c .before .before .before .before .is-state .ensures) (c .before .before .before .if1 .left), is-own (c .before .before .before .before .before .before .before .before .args .table .now) (c .before .before .before .before .before .before .before .before .args .state .now) _ (c .before .before .before .before .is-state .ensures) (c .before .before .before .if1 .left))
 
--- src/lib.rt:129:5
 number-of-requires : tie.Need-number-of-requires
 number-of-requires c κs = search needs
 
--- src/lib.rt:107:1
 same-length-3 : tie.Need-same-length-3
 same-length-3 c = search needs
 
--- src/lib.rt:107:1
 returns-3 : tie.Need-returns-3
 returns-3 c = begin-stored (c .before .before .before .before .before .before .before .before .before .before .before .before .args .table .now) (c .before .before .before .before .before .before .before .before .before .before .before .before .args .state .now) _ (c .before .before .before .before .before .before .before .before .is-state .ensures) (c .before .before .before .before .before .before .before .if1 .left) _ _ (c .before .before .before .begin-by .ensures .1) _ (c .number-of .ensures) _ _ _ _ (c .before .before .before .before .before .before .if2 .left) _ (c .before .before .before .before .operation-of .ensures) (c .before .before .before .begin-by .ensures .0)
 

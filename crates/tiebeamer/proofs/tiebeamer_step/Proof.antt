@@ -10,39 +10,30 @@ use Rattle.state.proofs.number_of.Reads as number-of-reads
 use Rattle.statecode.proofs.is_state.Reads as is-state-reads
 use Rattle.tiebeamer.proofs.step_by.Reads as step-by-reads
 
--- src/lib.rt:177:9
 is-state-requires : tie.Need-is-state-requires
 is-state-requires c κs = search needs
 
--- src/lib.rt:178:9
 same-length : tie.Need-same-length
 same-length c = search needs
 
--- src/lib.rt:178:9
 returns : tie.Need-returns
 returns c = step-no-state (c .before .before .before .before .before .args .table .now) (c .before .before .before .before .before .args .state .now) _ (c .before .is-state .ensures) (c .if1 .taken) _ _
 
--- src/lib.rt:180:9
 step-by-requires : tie.Need-step-by-requires
 step-by-requires c κs = (some-length _ _ (c .before .before .before .is-state .ensures) (c .before .before .if1 .left), is-own (c .before .before .before .before .before .before .before .args .table .now) (c .before .before .before .before .before .before .before .args .state .now) _ (c .before .before .before .is-state .ensures) (c .before .before .if1 .left))
 
--- src/lib.rt:181:14
 price-of-requires : tie.Need-price-of-requires
 price-of-requires c κs = search needs
 
--- src/lib.rt:182:5
 number-of-requires : tie.Need-number-of-requires
 number-of-requires c κs = search needs
 
--- src/lib.rt:168:1
 same-length-2 : tie.Need-same-length-2
 same-length-2 c = search needs
 
--- src/lib.rt:168:1
 same-length-3 : tie.Need-same-length-3
 same-length-3 c = search needs
 
--- src/lib.rt:168:1
 returns-2 : tie.Need-returns-2
 returns-2 c = step-stored (c .before .before .before .before .before .before .before .before .before .before .before .before .before .before .args .table .now) (c .before .before .before .before .before .before .before .before .before .before .before .before .before .before .args .state .now) _ (c .before .before .before .before .before .before .before .before .before .before .is-state .ensures) (c .before .before .before .before .before .before .before .before .before .if1 .left) _ _ _ (c .before .before .before .before .before .before .step-by .ensures .1) _ _ (c .number-of .ensures) (c .before .price-of .ensures) _ _ (c .before .before .before .before .before .before .step-by .ensures .0)
 

@@ -9,35 +9,27 @@ use Rattle.state.proofs.number_of.Reads as number-of-reads
 use Rattle.statecode.proofs.read_state.Reads as read-state-reads
 use Rattle.whole.proofs.tidy.Reads as tidy-reads
 
--- src/lib.rt:375:9
 read-state-requires : tie.Need-read-state-requires
 read-state-requires c κs = search needs
 
--- src/lib.rt:377:9
 same-length : tie.Need-same-length
 same-length c = search needs
 
--- src/lib.rt:377:9
 returns : tie.Need-returns
 returns c = tidy-none (c .before .before .before .before .before .before .args .table .now) (c .before .before .before .before .before .before .args .state .now) _ (c .before .before .read-state .ensures) (c .if1 .taken)
 
--- src/lib.rt:380:9
 tidy-requires : tie.Need-tidy-requires
 tidy-requires c κs = search needs
 
--- src/lib.rt:382:5
 number-of-requires : tie.Need-number-of-requires
 number-of-requires c κs = search needs
 
--- src/lib.rt:371:1
 same-length-2 : tie.Need-same-length-2
 same-length-2 c = search needs
 
--- src/lib.rt:371:1
 same-length-3 : tie.Need-same-length-3
 same-length-3 c = search needs
 
--- src/lib.rt:371:1
 returns-2 : tie.Need-returns-2
 returns-2 c = tidy-made (c .before .before .before .before .before .before .before .before .before .before .before .before .args .table .now) (c .before .before .before .before .before .before .before .before .before .before .before .before .args .state .now) _ (c .before .before .before .before .before .before .before .before .read-state .ensures) (c .before .before .before .before .before .before .if1 .left) _ _ _ _ (c .number-of .ensures) (tidy-kept (c .before .before .before .before .before .before .before .before .before .before .before .before .args .table .now) (c .before .before .before .before .before .before .before .before .before .before .before .before .args .state .now) _ (c .before .before .before .before .before .before .before .before .read-state .ensures) (c .before .before .before .before .before .before .if1 .left) _ _ (c .before .before .before .tidy .ensures)) (c .before .before .before .tidy .ensures)
 

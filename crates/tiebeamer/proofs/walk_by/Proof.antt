@@ -1,4 +1,3 @@
-use mathlib.Core.Path.{_∙_}
 use Rattle.tiebeamer.proofs.ByNumbers.{m-most, u-most}
 use Rattle.tiebeamer.proofs.Walks.{damaged-walk, lost-walk, gone-walk}
 use borrow.Author.Needs.{needs}
@@ -14,55 +13,42 @@ use Rattle.tiebeamer.proofs.grand_of.Reads as grand-of-reads
 use Rattle.tiebeamer.proofs.store_arrival.Reads as store-arrival-reads
 use Rattle.walk.proofs.walk_out.Reads as walk-out-reads
 
--- src/lib.rt:207:10
 is-sound-by-requires : tie.Need-is-sound-by-requires
 is-sound-by-requires c κs = search needs
 
--- src/lib.rt:207:27
 job-fits-requires : tie.Need-job-fits-requires
 job-fits-requires c κs = search needs
 
--- src/lib.rt:208:9
 same-length : tie.Need-same-length
 same-length c = search needs
 
--- src/lib.rt:208:9
 returns : tie.Need-returns
 returns c = (damaged-walk (c .before .before .before .before .before .before .before .args .w .now) (c .before .before .before .before .before .before .before .args .i) (c .before .before .before .before .before .before .before .args .k) (c .before .before .before .before .before .before .before .pre .2) (c .before .before .before .before .before .before .before .args .t .now) _ (c .before .before .is-sound-by .ensures) _ (c .before .job-fits .ensures) (c .if1 .taken), c .before .before .before .before .before .before .before .pre .2 .1)
 
--- src/lib.rt:210:9
 from-of-requires : tie.Need-from-of-requires
 from-of-requires c κs = search needs
 
--- src/lib.rt:212:9
 same-length-2 : tie.Need-same-length-2
 same-length-2 c = search needs
 
--- src/lib.rt:212:9
 returns-2 : tie.Need-returns-2
 returns-2 c = (lost-walk (c .before .before .before .before .before .before .before .before .before .before .args .w .now) (c .before .before .before .before .before .before .before .before .before .before .args .i) (c .before .before .before .before .before .before .before .before .before .before .args .k) (c .before .before .before .before .before .before .before .before .before .before .pre .2) (c .before .before .before .before .before .before .before .before .before .before .args .t .now) _ (c .before .before .before .before .before .is-sound-by .ensures) _ (c .before .before .before .before .job-fits .ensures) (c .before .before .before .if1 .left) _ (c .before .before .before .before .before .before .before .before .before .before .pre .1) _ (c .before .before .from-of .ensures) (c .if2 .taken), c .before .before .before .before .before .before .before .before .before .before .pre .2 .1)
 
--- src/lib.rt:214:9
 grand-of-requires : tie.Need-grand-of-requires
 grand-of-requires c κs = search needs
 
--- src/lib.rt:215:28
 goal-by-requires : tie.Need-goal-by-requires
 goal-by-requires c κs = search needs
 
--- src/lib.rt:215:9
 walk-out-requires : tie.Need-walk-out-requires
 walk-out-requires c κs = search needs
 
--- src/lib.rt:222:5
 store-arrival-requires : tie.Need-store-arrival-requires
 store-arrival-requires c κs = (c .before .before .before .before .before .before .before .before .before .before .before .before .before .before .pre .2, m-most _ _ _ (c .before .before .before .before .before .before .before .before .before .is-sound-by .ensures) (c .before .before .before .before .before .before .before .if1 .left), u-most _ _ _ (c .before .before .before .before .before .before .before .before .before .is-sound-by .ensures) (c .before .before .before .before .before .before .before .if1 .left))
 
--- src/lib.rt:202:1
 same-length-3 : tie.Need-same-length-3
 same-length-3 c = search needs
 
--- src/lib.rt:202:1
 returns-3 : tie.Need-returns-3
 returns-3 c = (gone-walk (c .before .before .before .before .before .before .before .before .before .before .before .before .before .before .before .before .before .args .w .now) (c .before .before .before .before .before .before .before .before .before .before .before .before .before .before .before .before .before .args .i) (c .before .before .before .before .before .before .before .before .before .before .before .before .before .before .before .before .before .args .k) (c .before .before .before .before .before .before .before .before .before .before .before .before .before .before .before .before .before .pre .2) (c .before .before .before .before .before .before .before .before .before .before .before .before .before .before .before .before .before .args .t .now) _ (c .before .before .before .before .before .before .before .before .before .before .before .before .is-sound-by .ensures) _ (c .before .before .before .before .before .before .before .before .before .before .before .job-fits .ensures) (c .before .before .before .before .before .before .before .before .before .before .if1 .left) _ (c .before .before .before .before .before .before .before .before .before .before .before .before .before .before .before .before .before .pre .1) _ (c .before .before .before .before .before .before .before .before .before .from-of .ensures) (c .before .before .before .before .before .before .before .if2 .left) _ (c .before .before .before .before .before .before .grand-of .ensures) _ (rw (c .before .before .before .before .before .goal-by .ensures) at (c .before .before .before .before .walk-out .ensures)) _ (c .before .before .store-arrival .ensures .0), c .before .before .store-arrival .ensures .1)
 

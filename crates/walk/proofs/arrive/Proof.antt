@@ -7,28 +7,22 @@ use Rattle.walk.proofs.arrive.Lts as lts
 use Rattle.walk.proofs.serve_arrival.Reads as serve-arrival-reads
 use Rattle.walk.proofs.settle_arrival.Reads as settle-arrival-reads
 
--- src/lib.rt:127:21
 enum-known-g : tie.Need-enum-known-g
 enum-known-g c = search needs
 
--- src/lib.rt:127:27
 serve-arrival-requires : tie.Need-serve-arrival-requires
 serve-arrival-requires c κs = search needs
 
--- src/lib.rt:128:25
 enum-told : tie.Need-enum-told
 enum-told c = search needs
 
--- src/lib.rt:128:25
 settle-arrival-requires : tie.Need-settle-arrival-requires
 settle-arrival-requires c κs = search needs
 
--- src/lib.rt:123:1
 returns : tie.Need-returns
 unfolding arrival
 returns c = simp (c .before .before .g .given .1, c .serve-arrival .ensures)
 
--- src/lib.rt:123:1
 returns-2 : tie.Need-returns-2
 unfolding arrival
 returns-2 c = simp (c .before .enum-told .given .1, c .settle-arrival .ensures)

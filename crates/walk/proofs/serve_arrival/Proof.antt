@@ -9,20 +9,16 @@ use Rattle.walk.proofs.serve_arrival.Lts as lts
 use Rattle.fields.proofs.is_leaf.Reads as is-leaf-reads
 use Rattle.walk.proofs.at_leaf.Reads as at-leaf-reads
 
--- src/lib.rt:100:8
 is-leaf-requires : tie.Need-is-leaf-requires
 is-leaf-requires c κs = search needs
 
--- src/lib.rt:101:9
 at-leaf-requires : tie.Need-at-leaf-requires
 at-leaf-requires c κs = search needs
 
--- src/lib.rt:101:9
 returns : tie.Need-returns
 unfolding serveArrival ifB
 returns c = simp (← c .before .before .is-leaf .ensures, c .before .if1 .taken, c .at-leaf .ensures)
 
--- src/lib.rt:97:1
 returns-2 : tie.Need-returns-2
 unfolding turnAt serveArrival ifB
 returns-2 c = simp (← c .before .is-leaf .ensures, c .if1 .left)

@@ -10,34 +10,27 @@ use Rattle.fields.proofs.is_leaf.Reads as is-leaf-reads
 use Rattle.fields.proofs.is_level.Reads as is-level-reads
 use Rattle.fields.proofs.outranks.Reads as outranks-reads
 
--- src/lib.rt:110:8
 outranks-requires : tie.Need-outranks-requires
 outranks-requires c κs = search needs
 
--- src/lib.rt:111:9
 returns : tie.Need-returns
 unfolding turnAt settleArrival ifB
 returns c = simp (← c .before .outranks .ensures, c .if1 .taken)
 
--- src/lib.rt:113:8
 is-level-requires : tie.Need-is-level-requires
 is-level-requires c κs = search needs
 
--- src/lib.rt:114:9
 returns-2 : tie.Need-returns-2
 unfolding turnAt settleArrival ifB
 returns-2 c = simp (← c .before .before .before .outranks .ensures, c .before .before .if1 .left, ← c .before .is-level .ensures, c .if2 .taken)
 
--- src/lib.rt:116:8
 is-leaf-requires : tie.Need-is-leaf-requires
 is-leaf-requires c κs = search needs
 
--- src/lib.rt:117:9
 returns-3 : tie.Need-returns-3
 unfolding turnAt settleArrival ifB
 returns-3 c = simp (← c .before .before .before .before .before .outranks .ensures, c .before .before .before .before .if1 .left, ← c .before .before .before .is-level .ensures, c .before .before .if2 .left, ← c .before .is-leaf .ensures, c .if3 .taken)
 
--- src/lib.rt:107:1
 returns-4 : tie.Need-returns-4
 unfolding turnAt settleArrival ifB
 returns-4 c = simp (← c .before .before .before .before .before .outranks .ensures, c .before .before .before .before .if1 .left, ← c .before .before .before .is-level .ensures, c .before .before .if2 .left, ← c .before .is-leaf .ensures, c .if3 .left)

@@ -6,72 +6,56 @@ use Rattle.walk.proofs.turn_at.Reads as reads
 use Rattle.walk.proofs.turn_at.Lts as lts
 use Rattle.walk.proofs.busy_in.Reads as busy-in-reads
 
--- src/lib.rt:175:26
 enum-told : tie.Need-enum-told
 enum-told c = search needs
 
--- src/lib.rt:176:46
 enum-told-2 : tie.Need-enum-told-2
 enum-told-2 c = search needs
 
--- src/lib.rt:176:35
 busy-in-requires : tie.Need-busy-in-requires
 busy-in-requires c κs = search needs
 
--- src/lib.rt:177:68
 enum-told-3 : tie.Need-enum-told-3
 enum-told-3 c = search needs
 
--- src/lib.rt:177:37
 busy-in-requires-2 : tie.Need-busy-in-requires-2
 busy-in-requires-2 c κs = search needs
 
--- src/lib.rt:178:69
 enum-told-4 : tie.Need-enum-told-4
 enum-told-4 c = search needs
 
--- src/lib.rt:178:38
 busy-in-requires-3 : tie.Need-busy-in-requires-3
 busy-in-requires-3 c κs = search needs
 
--- src/lib.rt:179:70
 enum-told-5 : tie.Need-enum-told-5
 enum-told-5 c = search needs
 
--- src/lib.rt:179:40
 busy-in-requires-4 : tie.Need-busy-in-requires-4
 busy-in-requires-4 c κs = search needs
 
--- src/lib.rt:180:23
 enum-known-a : tie.Need-enum-known-a
 enum-known-a c = search needs
 
--- src/lib.rt:171:1
 returns : tie.Need-returns
 unfolding turnAt
 returns c = simp (c .enum-told .given .1)
 
--- src/lib.rt:171:1
 returns-2 : tie.Need-returns-2
 unfolding turnAt
 returns-2 c = simp (c .before .enum-told2 .given .1, c .busy-in .ensures)
 
--- src/lib.rt:171:1
 returns-3 : tie.Need-returns-3
 unfolding turnAt
 returns-3 c = simp (c .before .enum-told3 .given .1, c .busy-in2 .ensures)
 
--- src/lib.rt:171:1
 returns-4 : tie.Need-returns-4
 unfolding turnAt
 returns-4 c = simp (c .before .enum-told4 .given .1, c .busy-in3 .ensures)
 
--- src/lib.rt:171:1
 returns-5 : tie.Need-returns-5
 unfolding turnAt
 returns-5 c = simp (c .before .enum-told5 .given .1, c .busy-in4 .ensures)
 
--- src/lib.rt:171:1
 returns-6 : tie.Need-returns-6
 unfolding turnAt
 returns-6 c = simp (c .before .a .given .1)

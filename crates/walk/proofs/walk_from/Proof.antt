@@ -7,15 +7,12 @@ use Rattle.walk.proofs.walk_from.Lts as lts
 use Rattle.walk.proofs.turn_at.Reads as turn-at-reads
 use Rattle.walk.proofs.walk_out.Reads as walk-out-reads
 
--- src/lib.rt:199:9
 walk-out-requires : tie.Need-walk-out-requires
 walk-out-requires c κs = search needs
 
--- src/lib.rt:206:5
 turn-at-requires : tie.Need-turn-at-requires
 turn-at-requires c κs = search needs
 
--- src/lib.rt:195:1
 returns : tie.Need-returns
 returns c = c .turn-at .ensures ∙ c .before .walk-out .ensures
 

@@ -11,28 +11,22 @@ use Rattle.fields.proofs.sought_link.Reads as sought-link-reads
 use Rattle.fields.proofs.well_formed.Reads as well-formed-reads
 use Rattle.walk.proofs.walk_to.Reads as walk-to-reads
 
--- src/lib.rt:149:9
 load-requires : tie.Need-load-requires
 load-requires c κs = search needs
 
--- src/lib.rt:150:9
 well-formed-requires : tie.Need-well-formed-requires
 well-formed-requires c κs = search needs
 
--- src/lib.rt:151:9
 returns : tie.Need-returns
 unfolding turnAt walkFrom ifB
 returns c = simp (← c .before .before .load .ensures, ← c .before .well-formed .ensures, c .if1 .taken)
 
--- src/lib.rt:156:9
 sought-link-requires : tie.Need-sought-link-requires
 sought-link-requires c κs = search needs
 
--- src/lib.rt:164:13
 walk-to-requires : tie.Need-walk-to-requires
 walk-to-requires c κs = search needs
 
--- src/lib.rt:145:1
 returns-2 : tie.Need-returns-2
 unfolding walkFrom ifB
 returns-2 c = simp (← c .before .before .before .before .load .ensures, ← c .before .before .before .well-formed .ensures, c .before .before .if1 .left, ← c .before .sought-link .ensures, c .walk-to .ensures)

@@ -10,24 +10,19 @@ use Rattle.fields.proofs.is_linked.Reads as is-linked-reads
 use Rattle.fields.proofs.load.Reads as load-reads
 use Rattle.walk.proofs.arrive.Reads as arrive-reads
 
--- src/lib.rt:137:9
 load-requires : tie.Need-load-requires
 load-requires c κs = search needs
 
--- src/lib.rt:138:9
 is-linked-requires : tie.Need-is-linked-requires
 is-linked-requires c κs = search needs
 
--- src/lib.rt:139:9
 returns : tie.Need-returns
 unfolding turnAt walkTo ifB
 returns c = simp (← c .before .before .load .ensures, ← c .before .is-linked .ensures, c .if1 .taken)
 
--- src/lib.rt:141:5
 arrive-requires : tie.Need-arrive-requires
 arrive-requires c κs = search needs
 
--- src/lib.rt:133:1
 returns-2 : tie.Need-returns-2
 unfolding walkTo ifB
 returns-2 c = simp (← c .before .before .before .load .ensures, ← c .before .before .is-linked .ensures, c .before .if1 .left, c .arrive .ensures, c .before .before .before .before .before .pre .1)
