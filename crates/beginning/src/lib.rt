@@ -12,7 +12,7 @@ use terms::State;
 use terms::Task;
 ghost use mathlib.Core.Path.{_≡_};
 ghost use Prim.Native.Nat.{_+_, _-_, _*_, _/_, _≤_, _<_};
-ghost use lib.ListN.{length, replicate};
+ghost use lib.ListN.{length};
 ghost use Rattle.machine.specs.Contract.{after};
 ghost use Rattle.machine.specs.Calls.{beginOf, abandonedOut, abandonOf};
 

@@ -16,7 +16,7 @@ use words::wide;
 ghost use mathlib.Core.Path.{_≡_};
 ghost use mathlib.Core.Bool.{_&&_, not};
 ghost use Prim.Native.Nat.{_+_, _-_, _*_, _≤_, _<_};
-ghost use lib.ListN.{length, getD};
+ghost use lib.ListN.{length};
 ghost use Rattle.machine.specs.Contract.{after};
 ghost use Rattle.machine.specs.Answers.{priceOf};
 ghost use Rattle.machine.specs.CallFile.{jobOf, noJob, begins, steps, abandons, tidies, operationOf, byOperation, decode, runOf, serve, printed, lineOf, recordOf};

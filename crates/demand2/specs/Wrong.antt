@@ -1,11 +1,11 @@
--- WRONG MACHINES: each is the real one but for one line.
+-- WRONG MACHINES: each is the real one but for one line; `refusing` alone answers every call otherwise.
 use Prim.Native.Nat.{_+_, ℕ}
 use lib.Dec.{eqb}
 use lib.ListN.{length}
 use mathlib.Core.Bool.{Bool, false, true}
 use mathlib.Core.List.{List, [], _∷_}
 use Rattle.history.specs.History.{abandon, begin, figures, list, reset, step, tidy}
-use Rattle.history.specs.Machine.{Machine}
+use Rattle.history.specs.Machine.{Machine, withStep}
 use Rattle.machine.specs.Answers.{numberOf}
 use Rattle.machine.specs.Calls.{abandonOf, beginOf, emptyTable, figuresOf, listOf, noReport, resetOf, tidyOf}
 use Rattle.machine.specs.Choice.{ifB}
@@ -39,9 +39,6 @@ refusing =
       figures = λ t st. noReport Damaged;
       list = λ t st room. record { answer = Damaged; room = room };
     }
-
-abbrev withStep : (List ℕ → State → ℕ → Left) → Machine
-withStep f = record { reset = resetOf; begin = beginOf; step = f; abandon = abandonOf; tidy = tidyOf; figures = figuresOf; list = listOf }
 
 -- the first step of a put-in does all of it; the later ones only pretend
 abbrev startsPut : Work → Bool

@@ -4,7 +4,7 @@ use lib.Dec.{eqb}
 use mathlib.Core.Bool.{Bool, false, not}
 use mathlib.Core.List.{List}
 use Rattle.history.specs.History.{abandon, begin, figures, list, reset, step, tidy}
-use Rattle.history.specs.Machine.{Machine}
+use Rattle.history.specs.Machine.{Machine, withStep}
 use Rattle.machine.specs.Calls.{abandonOf, beginOf, figuresOf, listOf, resetOf, tidyOf}
 use Rattle.machine.specs.Choice.{ifB}
 use Rattle.machine.specs.State.{taskAt, withTask}
@@ -16,9 +16,6 @@ use Rattle.terms.specs.declared.Phase.the-variants.{PuttingIn, Settling, Start,
 use Rattle.terms.specs.declared.State.{State}
 use Rattle.terms.specs.declared.Work.{Work}
 use Rattle.terms.specs.declared.Work.the-variants.{Busy, Idle}
-
-abbrev withStep : (List ℕ → State → ℕ → Left) → Machine
-withStep f = record { reset = resetOf; begin = beginOf; step = f; abandon = abandonOf; tidy = tidyOf; figures = figuresOf; list = listOf }
 
 -- a task ends as settled
 abbrev endsSettled : List ℕ → State → ℕ → Left

@@ -6,7 +6,7 @@ ghost use Prim.Native.Nat.{_+_, _-_, _*_, _/_, _≤_, _<_};
 ghost use lib.ListN.{length};
 ghost use Rattle.machine.specs.Contract.{Sized};
 ghost use mathlib.Core.Bool.{_&&_, _||_};
-ghost use Rattle.machine.specs.Record.{fareMarks, innerMarks, isInner, entryForm, inTree, sentinel, isLeaf, wellFormed, linked, level, isFare, leads, linksOf, still, other};
+ghost use Rattle.machine.specs.Record.{fareMarks, innerMarks, isLink, isInner, entryForm, inTree, sentinel, isLeaf, wellFormed, linked, level, isFare, leads, linksOf, still, other};
 ghost use Rattle.machine.specs.Table.{view, put, fill, lead, off, lengthFits};
 ghost use Rattle.machine.specs.Walk.{sought, outranks};
 
@@ -119,21 +119,27 @@ fn leaf_marked(r: Rec) -> bool
     is_sentinel(r) | ((r.number < 1000000) & ((r.price < 100000) & (r.rank == 0)))
 }
 
+// Whether a link leads somewhere, in a table of n slots.
+fn is_link(n: u32, s: u32) -> bool
+    ensures { λ b. ⌜ b ≡ isLink n s ⌝ }
+{
+    (1 <= s) & (s < n)
+}
+
 // Whether a record with links is well formed as an inner one.
 fn inner_formed(n: u32, r: Rec) -> bool
     ensures { λ b. ⌜ b ≡ (isInner n r && (sentinel r || innerMarks r)) ⌝ }
 {
-    let guides = (r.number < 1000000) & ((r.price == 0) & ((1 <= r.rank) & (r.rank <= 28)));
-    let first = (1 <= r.left) & (r.left < n);
-    let second = (1 <= r.right) & (r.right < n);
-    (first & (second & (r.left != r.right))) & (is_sentinel(r) | guides)
+    let marked = (r.number < 1000000) & ((r.price == 0) & ((1 <= r.rank) & (r.rank <= 28)));
+    let linked = is_link(n, r.left) & (is_link(n, r.right) & (r.left != r.right));
+    linked & (is_sentinel(r) | marked)
 }
 
 // Whether a record is well formed as the entry.
 fn entry_formed(n: u32, r: Rec) -> bool
     ensures { λ b. ⌜ b ≡ entryForm n r ⌝ }
 {
-    is_sentinel(r) & (((1 <= r.left) & (r.left < n)) & (r.right == 0))
+    is_sentinel(r) & (is_link(n, r.left) & (r.right == 0))
 }
 
 // Whether a record of slot s is well formed, in a table of n slots: by state, slot and links, so that few tests are made.

@@ -1,5 +1,5 @@
 -- What the calls of a history commit, read off what a caller can see: the calls, their answers, and which tasks settle.
-use Prim.Native.Nat.{ℕ, zero, suc, _+_, _-_}
+use Prim.Native.Nat.{ℕ, _+_}
 use mathlib.Core.Bool.{Bool, true, false, _&&_, _||_, not}
 use mathlib.Core.List.{List, [], _∷_}
 use lib.Dec.{ltb, eqb}

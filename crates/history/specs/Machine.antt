@@ -21,3 +21,7 @@ pub record Machine : Type 0 where
 -- THE machine: the very definitions that the contracts of the code cite
 abbrev pub real : Machine
 real = record { reset = resetOf; begin = beginOf; step = stepOf; abandon = abandonOf; tidy = tidyOf; figures = figuresOf; list = listOf }
+
+-- the same but for its step
+abbrev pub withStep : (List ℕ → State → ℕ → Left) → Machine
+withStep f = record { reset = resetOf; begin = beginOf; step = f; abandon = abandonOf; tidy = tidyOf; figures = figuresOf; list = listOf }

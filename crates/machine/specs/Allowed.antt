@@ -1,8 +1,8 @@
 -- THE ALLOWED RANK.
 use Prim.Native.Nat.{ℕ, zero, suc, _+_, _-_, _*_}
-use mathlib.Core.Bool.{Bool, true, false, _&&_}
+use mathlib.Core.Bool.{true, false}
 use mathlib.Core.List.{List, [], _∷_}
-use lib.Dec.{leb, eqb}
+use lib.Dec.{leb}
 use lib.ListN.{drop}
 
 -- "a table of the first 32 Fibonacci numbers (from 1, 1)"

@@ -59,7 +59,7 @@ abandons b = ifB (eqb (countOf b) 0 && noJob b) (Abandon (byte b 1)) Bad
 unfoldable pub tidies : List ℕ → Call
 tidies b = ifB (eqb (byte b 1) 0 && (eqb (countOf b) 0 && noJob b)) Tidy Bad
 
--- "operation (1 look up, 2 put in, 3 take out, 4 step, 5 abandon, 6 tidy)"; else 19
+-- "operation (1 look up, 2 put in, 3 take out, 4 step, 5 abandon, 6 tidy)": of 1 to 3; no other number comes here
 unfoldable pub operationOf : ℕ → Operation
 operationOf o = ifB (eqb o 1) LookUp (ifB (eqb o 2) PutIn TakeOut)
 

@@ -1,9 +1,9 @@
 -- The other calls: reset, begin, abandon, tidy, figures, list.
-use Prim.Native.Nat.{ℕ, zero, suc, _+_, _*_, _/_}
-use mathlib.Core.Bool.{Bool, true, false, _&&_, not}
+use Prim.Native.Nat.{ℕ, zero, suc, _+_, _*_}
+use mathlib.Core.Bool.{true, false, not}
 use mathlib.Core.List.{List, [], _∷_, _++_}
-use lib.Dec.{ltb, leb, eqb}
-use lib.ListN.{length, getD, drop, replicate, set}
+use lib.Dec.{ltb, eqb}
+use lib.ListN.{length, getD, drop, replicate}
 use Rattle.terms.specs.declared.Rec.{Rec}
 use Rattle.terms.specs.declared.Job.{Job}
 use Rattle.terms.specs.declared.Operation.{Operation}
@@ -16,13 +16,13 @@ use Rattle.terms.specs.declared.Answer.{Answer}
 use Rattle.terms.specs.declared.Answer.the-variants.{Accepted, PutUnsettled, TaskNumber, OutOfRange, TaskBusy, TaskIdle, SomeBusy, NoRoom, Damaged, Length}
 use Rattle.machine.specs.Choice.{ifB}
 use Rattle.machine.specs.Record.{topNumber, freeRec}
-use Rattle.machine.specs.Table.{View, view, Write, fill, puts, lengthFits, slots, countFree}
-use Rattle.terms.specs.Task.{idleTask, begun, abandoned, isBusy, workSettles}
+use Rattle.machine.specs.Table.{view, Write, fill, puts, lengthFits, slots, countFree}
+use Rattle.terms.specs.Task.{begun, abandoned, isBusy, workSettles}
 use Rattle.machine.specs.State.{taskAt, withTask, one, busyTasks, countOpen, sound, askFits, freshState}
-use Rattle.machine.specs.PutIn.{leafOf, innerOf}
+use Rattle.machine.specs.PutIn.{innerOf}
 use Rattle.machine.specs.Step.{Left, same, counted}
 use Rattle.machine.specs.Contract.{after}
-use Rattle.machine.specs.Reach.{Tree, Reached, hurt, reached, reach, levels, countFares, fareList, heightOf}
+use Rattle.machine.specs.Reach.{Reached, hurt, reached, reach, levels, countFares, fareList, heightOf}
 use Rattle.machine.specs.Allowed.{allowedRank}
 
 -- "Reset: slot 0 entry, slot 1 sentinel leaf, m and u 0, all tasks idle, all other slots zero."

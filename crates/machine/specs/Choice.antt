@@ -1,5 +1,4 @@
 -- A choice by a test. It is shut, so that a goal shows the choice.
-use mathlib.Core.Path.{_≡_, refl}
 use mathlib.Core.Bool.{Bool, true, false}
 
 -- the first where the test holds, otherwise the second

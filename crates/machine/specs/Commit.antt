@@ -1,11 +1,10 @@
 -- HOW ONE STEP GOES, 2 and 3: a reading, and what every commit shares.
-use Prim.Native.Nat.{ℕ}
-use mathlib.Core.Bool.{Bool, true, false, not}
+use mathlib.Core.Bool.{Bool, false, not}
 use mathlib.Core.List.{List, []}
 use Rattle.terms.specs.declared.Rec.{Rec}
 use Rattle.terms.specs.declared.Task.{Task}
 use Rattle.terms.specs.declared.Turn.{Turn}
-use Rattle.terms.specs.declared.Turn.the-variants.{Hurt, Next, Done}
+use Rattle.terms.specs.declared.Turn.the-variants.{Hurt, Next}
 use Rattle.machine.specs.Choice.{ifB}
 use Rattle.machine.specs.Record.{linksOf}
 use Rattle.machine.specs.Table.{Write}

@@ -74,7 +74,7 @@ abbrev pub fareList : Tree → List ℕ
 fareList (leaf s r) = fareLine (isFare r) r
 fareList (node s r a b) = fareList a ++ fareList b
 
--- the records on the longest way down to a fare, 0 where there is none
+-- the larger of two
 unfoldable pub larger : ℕ → ℕ → ℕ
 larger a b = ifB (leb a b) b a
 

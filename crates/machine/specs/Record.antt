@@ -1,6 +1,6 @@
 -- QUANTITIES. A record of six numbers, and which records are well formed.
 use Prim.Native.Nat.{ℕ}
-use mathlib.Core.Bool.{Bool, true, false, _&&_, _||_, not}
+use mathlib.Core.Bool.{Bool, _&&_, _||_, not}
 use lib.Dec.{ltb, leb, eqb}
 use Rattle.terms.specs.declared.Rec.{Rec}
 use Rattle.terms.specs.declared.Links.{Links}

@@ -1,6 +1,6 @@
 -- SETTLING: the settling table, and the writes of each row. `side` is true where x is z's left child: both mirror forms are one text.
 use Prim.Native.Nat.{ℕ, _+_, _-_}
-use mathlib.Core.Bool.{Bool, true, false, _&&_, _||_, not}
+use mathlib.Core.Bool.{Bool, true, not}
 use mathlib.Core.List.{List, [], _∷_}
 use lib.Dec.{ltb, leb, eqb}
 use Rattle.terms.specs.declared.Rec.{Rec}

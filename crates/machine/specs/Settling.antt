@@ -1,8 +1,8 @@
 -- SETTLING: the readings, the choice by the links noted so far, and the commits.
 use Prim.Native.Nat.{ℕ, _+_, _-_}
 use mathlib.Core.Bool.{Bool, true, false, _&&_, not}
-use mathlib.Core.List.{List, [], _∷_}
-use lib.Dec.{ltb, leb, eqb}
+use mathlib.Core.List.{List}
+use lib.Dec.{leb, eqb}
 use Rattle.terms.specs.declared.Rec.{Rec}
 use Rattle.terms.specs.declared.Links.{Links}
 use Rattle.terms.specs.declared.Path.{Path}

@@ -101,11 +101,11 @@ pub data Touched {p : Point} (s : Stands p) (i : ℕ) (c : Ask) (l : Left) : Typ
   idle-now : taskAt (l .state) i .work ≡ Idle → Touched s i c l
   stepped-now : (j : Job) (f : Phase) → i < 8 → taskAt (p .state) i .work ≡ Busy j f → c ≡ step i → Touched s i c l
 
-touched : {p : Point} (s : Stands p) (i : ℕ) {c : Ask} {l : Left} {a : Account} {t′ : Tree} → Passes s c l a t′ → NotBegin i c → Touched s i c l
+touched : {p : Point} (s : Stands p) (i : ℕ) {c : Ask} {l : Left} {a : Account} {t′ : Tree} → Passes s c l a t′ → NotBegin i c l → Touched s i c l
 touched s i (refused x h) nb = untouched refl
 touched s i (looks x h) nb = untouched refl
 touched s i resets nb = idle-now (ap (λ (k : Task). k .work) (all-alike 8 i idleTask))
-touched {p} s i (begins k o j lt idle f) nb = untouched (ap (λ (k : Task). k .work) (stored-other (p .state .tasks) k i _ idleTask (λ e. nb (sym e))))
+touched {p} s i (begins k o j lt idle f) nb = untouched (ap (λ (k : Task). k .work) (stored-other (p .state .tasks) k i _ idleTask (λ e. nb (sym e) refl)))
 touched {p} s i (steps k j f d lt is e inside does b) nb =
     elim (same-or i k) [
       | inl q ↦ stepped-now j f (omega arith) (subst (λ y. taskAt (p .state) y .work ≡ Busy j f) (sym q) is) (ap step (sym q))
@@ -119,7 +119,7 @@ touched {p} s i (abandons k du x lt b e h) nb =
     ]
 touched s i (tidies e) nb = untouched refl
 
-one-call : {p : Point} (s : Stands p) → rank (s .tree) ≡ 255 → (i : ℕ) → Calmly s i (taskAt (p .state) i .work) → (c : Ask) → NotBegin i c → advance real p c .table ≡ p .table
+one-call : {p : Point} (s : Stands p) → rank (s .tree) ≡ 255 → (i : ℕ) → Calmly s i (taskAt (p .state) i .work) → (c : Ask) → NotBegin i c (left real (p .table) (p .state) c) → advance real p c .table ≡ p .table
     → (s′ : Stands (advance real p c)) → Calmly s′ i (taskAt (advance real p c .state) i .work)
 unfolding advance
 one-call {p} s top i h c nb same s′ = go (touched s i (passing s c .passes) nb)

@@ -1,4 +1,5 @@
 -- THE PANEL'S USE of it: one "step" record of the call file, operation 4, with a count of at least the budget ends the operation.
+-- A record has a count of at most 65,535: look ups and take-outs always fit into one, a put-in while c is at most 32.
 use Prim.Native.Nat.{_*_, _+_, _≤_, ℕ}
 use lib.ListN.{length}
 use mathlib.Core.List.{List}

@@ -4,10 +4,12 @@ use lib.ListN.{length}
 use mathlib.Core.Bool.{Bool, false, true}
 use mathlib.Core.List.{List, [], _∷_}
 use mathlib.Core.Path.{_≡_}
-use Rattle.history.specs.History.{Ask, abandon, begin, figures, list, reset, step, tidy}
+use Rattle.history.specs.History.{Ask, abandon, begin, figures, left, list, reset, step, tidy}
 use Rattle.history.specs.Ledger.{Point, advance, goes, history}
 use Rattle.history.specs.Machine.{Machine}
 use Rattle.machine.specs.State.{taskAt}
+use Rattle.machine.specs.Step.{Left}
+use Rattle.terms.specs.declared.Answer.the-variants.{Accepted}
 use Rattle.terms.specs.declared.Phase.{Phase}
 use Rattle.terms.specs.declared.Phase.the-variants.{PuttingIn, Settling, Start, TakingOut, Walk}
 use Rattle.terms.specs.declared.State.{State}
@@ -29,22 +31,22 @@ startsWork (Busy j f) = isStart f
 abbrev pub startsAt : Point → ℕ → Bool
 startsAt p i = startsWork (taskAt (p .state) i .work)
 
--- a call that does not begin task i
-abbrev pub NotBegin : ℕ → Ask → Type 0
-NotBegin i reset = Unit {0}
-NotBegin i (begin k o j) = k ≡ i → ⊥
-NotBegin i (step k) = Unit {0}
-NotBegin i (abandon k) = Unit {0}
-NotBegin i tidy = Unit {0}
-NotBegin i figures = Unit {0}
-NotBegin i (list room) = Unit {0}
+-- a call that does not begin task i: a begin that is refused does not
+abbrev pub NotBegin : ℕ → Ask → Left → Type 0
+NotBegin i reset l = Unit {0}
+NotBegin i (begin k o j) l = k ≡ i → l .answer ≡ Accepted → ⊥
+NotBegin i (step k) l = Unit {0}
+NotBegin i (abandon k) l = Unit {0}
+NotBegin i tidy l = Unit {0}
+NotBegin i figures l = Unit {0}
+NotBegin i (list room) l = Unit {0}
 
 -- none of these calls begins task i, and each leaves the table as it was: nothing is committed
 abbrev pub Untouched : Machine → ℕ → Point → List Ask → Type 0
 Untouched M i p [] = Unit {0}
-Untouched M i p (c ∷ cs) = NotBegin i c × (advance M p c .table ≡ p .table) × Untouched M i (advance M p c) cs
+Untouched M i p (c ∷ cs) = NotBegin i c (left M (p .table) (p .state) c) × (advance M p c .table ≡ p .table) × Untouched M i (advance M p c) cs
 
--- task i leaves the entry at a step; then any calls are made, by any tasks, that leave the table as it was. At no point of them it is about to walk from the entry
+-- task i leaves the entry at a step; then any calls are made, by any tasks, that leave the table as it was and do not begin task i anew. After them it is not about to walk from the entry
 abbrev pub No-Restart : Machine → Type 0
 No-Restart M =
     (t : List ℕ) (st : State) (cs : List Ask) (n : ℕ) → length t ≡ 6 * n → 8 ≤ n → n ≤ 4096

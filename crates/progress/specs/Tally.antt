@@ -35,7 +35,7 @@ pub record Tally : Type 0 where
 abbrev pub noTally : Tally
 noTally = record { settlings = 0; settling-puts = 0 }
 
--- a step of a task that settles changes the table only by a settling commit; a put-in that goes on to settle leaves its task settling
+-- a step of a task that settles changes the table only by a settling commit, and each of those does, since z is taken off; a put-in that goes on to settle leaves its task settling
 unfoldable pub tallied : Tally → Point → Ask → Left → Tally
 tallied n p reset l = ifB (eqb (numberOf (l .answer)) 0) noTally n
 tallied n p (begin i o j) l = n

@@ -33,7 +33,7 @@ ghost use mathlib.Core.Path.{_≡_};
 ghost use Prim.Native.Nat.{_+_, _-_, _*_, _≤_, _<_};
 ghost use Rattle.terms.specs.declared.LevelRow.the-variants.{DoubleRotation};
 ghost use Rattle.machine.specs.Contract.{Sized, acted, played};
-ghost use Rattle.machine.specs.Table.{view, puts};
+ghost use Rattle.machine.specs.Table.{view};
 ghost use Rattle.machine.specs.Settling.{readGrand, readParent, readOn, groundsTwo, groundsThree, groundsFour, testTwo, testThree, testFour, promoteDo, rotateDo, rotateTwoDo, doubleDo, rotateBy, doubleBy, promoteBy};
 ghost use Rattle.settling.specs.Again.{settledOn};
 

@@ -10,7 +10,7 @@ use terms::Work;
 ghost use mathlib.Core.Path.{_≡_};
 ghost use mathlib.Core.Bool.{_&&_};
 ghost use Prim.Native.Nat.{_+_, _-_, _*_, _≤_, _<_};
-ghost use Rattle.machine.specs.State.{one, settling, busyTasks, sound, countOpen, jobFits, askFits, mayPrice, taskAt, withTask, freshState};
+ghost use Rattle.machine.specs.State.{one, settling, busyTasks, sound, jobFits, askFits, mayPrice, withTask, freshState};
 ghost use Rattle.machine.specs.Contract.{turnedOut};
 ghost use Rattle.machine.specs.Answers.{numberOf};
 ghost use Rattle.machine.specs.Step.{counted};

@@ -13,7 +13,7 @@ use Rattle.statecode.specs.Code.{jobBy}
 
 -- what the numbers of a task say of its walk
 abbrev pub walkerBy : List ℕ → Walker
-walkerBy w = record { phase = getD w 0 0; job = jobBy w; mark = getD w 3 0; parent = getD w 5 0; here = getD w 6 0 }
+walkerBy w = record { phase = getD w 0 0; job = jobBy w; detail = getD w 3 0; parent = getD w 5 0; here = getD w 6 0 }
 
 -- no reading is noted
 unfoldable pub noNotes : Work → Bool

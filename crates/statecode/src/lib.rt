@@ -34,7 +34,7 @@ pub struct Row {
 pub struct Walker {
     pub phase: u32,
     pub job: Job,
-    pub mark: u32,
+    pub detail: u32,
     pub parent: u32,
     pub here: u32,
 }
@@ -596,7 +596,7 @@ fn walker_by(w: &[u32]) -> Walker
     Walker {
         phase: w[0],
         job: job_by(w),
-        mark: w[3],
+        detail: w[3],
         parent: q.parent,
         here: q.here,
     }
@@ -611,7 +611,7 @@ pub fn walker_at(w: &[u32], i: usize) -> Walker
 }
 
 // The first seven numbers of task i are written.
-pub fn store_walker(w: &mut [u32], i: usize, f: u32, j: Job, k: u32, q: Path)
+pub fn put_first(w: &mut [u32], i: usize, f: u32, j: Job, k: u32, q: Path)
     requires { ⌜ (length (now w) ≡ 122) × (i < 8) ⌝ }
     ensures { λ _. ⌜ now (w .exit) ≡ putFirst (now (w .entry)) (15 * i) f j k q ⌝ }
 {

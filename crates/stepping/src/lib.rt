@@ -19,7 +19,7 @@ use walk::walk_from;
 use walk::walk_on;
 ghost use mathlib.Core.Path.{_≡_};
 ghost use Prim.Native.Nat.{_+_, _-_, _*_, _/_, _≤_, _<_};
-ghost use lib.ListN.{length, replicate};
+ghost use lib.ListN.{length};
 ghost use Rattle.machine.specs.Contract.{Sized, after, acted, played};
 ghost use Rattle.machine.specs.Table.{view, slots};
 ghost use Rattle.machine.specs.Step.{phaseStep, stepWork, stepOf};

@@ -71,10 +71,10 @@ module _ (w : List ℕ) (i : ℕ) (k : Walker) (walks : Walks w i k) where
   same-phase : k .phase ≡ getD row 0 0
   same-phase = phase-row w i k (walks .3)
 
-  at-start : k .phase ≡ 1 → taskAt (stateBy w) i ≡ busy (k .job) (Start (goalBy (k .mark)))
+  at-start : k .phase ≡ 1 → taskAt (stateBy w) i ≡ busy (k .job) (Start (goalBy (k .detail)))
   at-start e = task-row w i (walks .2) ∙ start-by row (sym same-phase ∙ e) ∙ rw (walks .3) refl
 
-  at-walk : k .phase ≡ 2 → taskAt (stateBy w) i ≡ busy (k .job) (Walk (goalBy (k .mark)) (pathBy row))
+  at-walk : k .phase ≡ 2 → taskAt (stateBy w) i ≡ busy (k .job) (Walk (goalBy (k .detail)) (pathBy row))
   at-walk e = task-row w i (walks .2) ∙ walk-at row (sym same-phase ∙ e) ∙ rw (walks .3) refl
 
   by-phase : (P : Type 0) → (k .phase ≡ 1 → P) → (k .phase ≡ 2 → P) → P
@@ -91,14 +91,14 @@ module _ (w : List ℕ) (i : ℕ) (k : Walker) (walks : Walks w i k) where
   abbrev rest : List ℕ
   rest = later (stateBy w) i (eight w) (walks .2) ++ ends (stateBy w) i (eight w) (walks .2)
 
-  same-mark : k .mark ≡ getD (workRow (taskAt (stateBy w) i .work) ++ rest) 3 0
-  same-mark = ap (λ (z : Walker). z .mark) (walks .3) ∙ ap (λ (z : List ℕ). getD z 3 0) (row-at w i (walks .1) (walks .2))
+  same-detail : k .detail ≡ getD (workRow (taskAt (stateBy w) i .work) ++ rest) 3 0
+  same-detail = ap (λ (z : Walker). z .detail) (walks .3) ∙ ap (λ (z : List ℕ). getD z 3 0) (row-at w i (walks .1) (walks .2))
 
-  mark-is : k .mark ≡ goalNumber (goalBy (k .mark))
-  mark-is =
-      by-phase (k .mark ≡ goalNumber (goalBy (k .mark)))
-      (λ e. same-mark ∙ ap (λ (z : Task). getD (workRow (z .work) ++ rest) 3 0) (at-start e))
-      (λ e. same-mark ∙ ap (λ (z : Task). getD (workRow (z .work) ++ rest) 3 0) (at-walk e))
+  detail-is : k .detail ≡ goalNumber (goalBy (k .detail))
+  detail-is =
+      by-phase (k .detail ≡ goalNumber (goalBy (k .detail)))
+      (λ e. same-detail ∙ ap (λ (z : Task). getD (workRow (z .work) ++ rest) 3 0) (at-start e))
+      (λ e. same-detail ∙ ap (λ (z : Task). getD (workRow (z .work) ++ rest) 3 0) (at-walk e))
 
   -- the walker's next phase is stored
   module _ (f x : ℕ) (q : Path) (p : Phase) (er : places f (k .job) x q noLinks noLinks noLinks noLinks ≡ phaseRow (k .job) p) (last : List ℕ) (el : last ≡ putFirst w (15 * i) f (k .job) x q) where
@@ -116,17 +116,17 @@ module _ (w : List ℕ) (i : ℕ) (k : Walker) (walks : Walks w i k) where
 
   module _ (q : Path) (a : Arrival) where
     abbrev Stored : List ℕ → Answer → Type 0
-    Stored last r = (outBy last r ≡ turnedOut (stateBy w) i (turnAt (goalBy (k .mark)) (k .job) q a) false) × (isState last ≡ true)
+    Stored last r = (outBy last r ≡ turnedOut (stateBy w) i (turnAt (goalBy (k .detail)) (k .job) q a) false) × (isState last ≡ true)
 
     pub lost-stored : a ≡ Lost → Stored w Damaged
     unfolding turnAt
     lost-stored e = (hurt-turn (stateBy w) i _ false (rw e refl), walks .1)
 
-    pub on-stored : a ≡ On → (last : List ℕ) → last ≡ putFirst w (15 * i) 2 (k .job) (k .mark) q → Stored last Accepted
+    pub on-stored : a ≡ On → (last : List ℕ) → last ≡ putFirst w (15 * i) 2 (k .job) (k .detail) q → Stored last Accepted
     unfolding turnAt
     on-stored e last el =
-        next-stored 2 (k .mark) q (Walk (goalBy (k .mark)) q)
-        (ap (λ (z : ℕ). places 2 (k .job) z q noLinks noLinks noLinks noLinks) mark-is) last el _ (rw e refl)
+        next-stored 2 (k .detail) q (Walk (goalBy (k .detail)) q)
+        (ap (λ (z : ℕ). places 2 (k .job) z q noLinks noLinks noLinks noLinks) detail-is) last el _ (rw e refl)
 
     pub puts-stored : a ≡ Puts → (last : List ℕ) → last ≡ putFirst w (15 * i) 3 (k .job) 0 q → Stored last Accepted
     unfolding turnAt
@@ -174,23 +174,23 @@ module _ (w : List ℕ) (i : ℕ) (k : Walker) (walks : Walks w i k) where
       grand-is e = simp e
 
       goes : Turn
-      goes = walkFrom (view n t) n (goalBy (k .mark)) (k .job) (grandOf k) (fromOf k)
+      goes = walkFrom (view n t) n (goalBy (k .detail)) (k .job) (grandOf k) (fromOf k)
 
-      start-does : k .phase ≡ 1 → Does (Start (goalBy (k .mark))) goes
+      start-does : k .phase ≡ 1 → Does (Start (goalBy (k .detail))) goes
       unfolding phaseStep goes fromOf grandOf ifB
       start-does e = simp e
 
-      same-path : walkOn (view n t) n (goalBy (k .mark)) (k .job) (pathBy row) ≡ ifB (eqb (k .here) 0) Hurt (walkFrom (view n t) n (goalBy (k .mark)) (k .job) (k .parent) (k .here))
+      same-path : walkOn (view n t) n (goalBy (k .detail)) (k .job) (pathBy row) ≡ ifB (eqb (k .here) 0) Hurt (walkFrom (view n t) n (goalBy (k .detail)) (k .job) (k .parent) (k .here))
       unfolding walkOn
       same-path = rw (walks .3) refl
 
-      walk-does : k .phase ≡ 2 → (fromOf k ≡ 0 → ⊥) → Does (Walk (goalBy (k .mark)) (pathBy row)) goes
+      walk-does : k .phase ≡ 2 → (fromOf k ≡ 0 → ⊥) → Does (Walk (goalBy (k .detail)) (pathBy row)) goes
       unfolding phaseStep goes ifB
       walk-does e z =
           let y : k .here ≡ 0 → ⊥ = (λ x. z (here-is e ∙ x)) in
           ap calm (same-path ∙ simp (ne-eqb (k .here) 0 y, here-is e, grand-is e))
 
-      lost-does : k .phase ≡ 2 → fromOf k ≡ 0 → Does (Walk (goalBy (k .mark)) (pathBy row)) Hurt
+      lost-does : k .phase ≡ 2 → fromOf k ≡ 0 → Does (Walk (goalBy (k .detail)) (pathBy row)) Hurt
       unfolding phaseStep ifB
       lost-does e z =
           let y : k .here ≡ 0 = sym (here-is e) ∙ z in
@@ -212,7 +212,7 @@ module _ (w : List ℕ) (i : ℕ) (k : Walker) (walks : Walks w i k) where
             omega arith
 
         pub gone-walk :
-            (eqb (k .phase) 2 && eqb s 0) ≡ false → (g : ℕ) → g ≡ grandOf k → (x : Turn) → x ≡ walkFrom (view n t) n (goalBy (k .mark)) (k .job) g s
+            (eqb (k .phase) 2 && eqb s 0) ≡ false → (g : ℕ) → g ≡ grandOf k → (x : Turn) → x ≡ walkFrom (view n t) n (goalBy (k .detail)) (k .job) g s
             → (r : Out) → r ≡ turnedOut (stateBy w) i x false → Stepped r
         unfolding goes
         gone-walk nl g eg x ex r er =

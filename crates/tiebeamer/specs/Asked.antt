@@ -4,7 +4,7 @@ use mathlib.Core.List.{List, [], _∷_}
 use lib.ListN.{replicate}
 use Rattle.tiebeamer.specs.Interface.{resetTold, beginTold, stepTold, runTold, abandonTold, tidyTold, figuresShown, listShown}
 
--- every call but the state: table, then the numbers in their order; each call may be lent any table
+-- a call with all that it is lent and handed but the state: the table, any one, then the numbers in their order
 pub data Asked : Type 0 where
   reset : List ℕ → Asked
   begin : List ℕ → ℕ → ℕ → ℕ → ℕ → Asked

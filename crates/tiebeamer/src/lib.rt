@@ -15,9 +15,9 @@ use statecode::goal_number;
 use statecode::is_sound_by;
 use statecode::is_state;
 use statecode::no_path;
+use statecode::put_first;
 use statecode::read_state;
 use statecode::store_task;
-use statecode::store_walker;
 use statecode::task_at;
 use statecode::walker_at;
 use statecode::write_state;
@@ -77,7 +77,7 @@ pub extern "C" fn tiebeamer_reset(table: &mut [u32], state: &mut [u32]) -> u32
     hand_back(state, o)
 }
 
-// Task i begins an operation; the first seven numbers of an idle task are written.
+// Task i begins an operation. The places 7 to 14 of an idle task are 0 already, so its first seven numbers are enough.
 fn begin_by(t: &[u32], w: &mut [u32], i: u32, o: Operation, j: Job) -> Answer
     requires { ⌜ (length (now w) ≡ 122) × (isState (now w) ≡ true) ⌝ }
     ensures { λ r. ⌜ (after (now (t .entry)) (outBy (now (w .exit)) r) ≡ beginOf (now (t .entry)) (stateBy (now (w .entry))) i o j) × (isState (now (w .exit)) ≡ true) ⌝ }
@@ -99,7 +99,7 @@ fn begin_by(t: &[u32], w: &mut [u32], i: u32, o: Operation, j: Job) -> Answer
     if !is_sound_by(w) {
         return Answer::Damaged;
     }
-    store_walker(w, at, 1, j, goal_number(Goal::Serve(o)), no_path());
+    put_first(w, at, 1, j, goal_number(Goal::Serve(o)), no_path());
     Answer::Accepted
 }
 
@@ -197,25 +197,25 @@ fn grand_of(k: Walker) -> u32
 // What a walker came to is stored in its numbers; its answer.
 fn store_arrival(w: &mut [u32], i: usize, k: Walker, q: Path, a: Arrival) -> Answer
     requires { ⌜ Walks (now w) i k × (getD (now w) 120 0 ≤ 1000000) × (getD (now w) 121 0 ≤ 1000000) ⌝ }
-    ensures { λ r. ⌜ (outBy (now (w .exit)) r ≡ turnedOut (stateBy (now (w .entry))) i (turnAt (goalBy (k .mark)) (k .job) q a) false) × (isState (now (w .exit)) ≡ true) ⌝ }
+    ensures { λ r. ⌜ (outBy (now (w .exit)) r ≡ turnedOut (stateBy (now (w .entry))) i (turnAt (goalBy (k .detail)) (k .job) q a) false) × (isState (now (w .exit)) ≡ true) ⌝ }
 {
     let j = k.job;
     match a {
         Arrival::Lost => Answer::Damaged,
         Arrival::On => {
-            store_walker(w, i, 2, j, k.mark, q);
+            put_first(w, i, 2, j, k.detail, q);
             Answer::Accepted
         }
         Arrival::Puts => {
-            store_walker(w, i, 3, j, 0, q);
+            put_first(w, i, 3, j, 0, q);
             Answer::Accepted
         }
         Arrival::Takes => {
-            store_walker(w, i, 4, j, 0, q);
+            put_first(w, i, 4, j, 0, q);
             Answer::Accepted
         }
         Arrival::Settles => {
-            store_walker(w, i, 5, j, 0, q);
+            put_first(w, i, 5, j, 0, q);
             Answer::Accepted
         }
         Arrival::Ends(b) => {
@@ -226,7 +226,7 @@ fn store_arrival(w: &mut [u32], i: usize, k: Walker, q: Path, a: Arrival) -> Ans
     }
 }
 
-// A step of task i, which walks: only its first seven numbers are read and written.
+// A step of task i, which walks. It has no notes before and after, so seven numbers are enough unless the operation ends.
 fn walk_by(t: &[u32], n: u32, w: &mut [u32], i: usize, k: Walker) -> Answer
     requires { ⌜ Sized (now t) n × (n ≡ slots (now t)) × Walks (now w) i k ⌝ }
     ensures { λ r. ⌜ (after (now (t .entry)) (outBy (now (w .exit)) r) ≡ stepWork (now (t .entry)) (stateBy (now (w .entry))) i (taskAt (stateBy (now (w .entry))) i .work)) × (isState (now (w .exit)) ≡ true) ⌝ }
@@ -240,7 +240,7 @@ fn walk_by(t: &[u32], n: u32, w: &mut [u32], i: usize, k: Walker) -> Answer
         return Answer::Damaged;
     }
     let grand = grand_of(k);
-    let r = walk_out(t, n, goal_by(k.mark), j, grand, s);
+    let r = walk_out(t, n, goal_by(k.detail), j, grand, s);
     let q = Path {
         grand: grand,
         parent: s,

@@ -1,4 +1,5 @@
--- FROM A RESET NOTHING IS EVER DAMAGED: no call of any history is answered 17.
+-- FROM A RESET NOTHING IS EVER DAMAGED: no call after the opening reset is answered 17. The reset itself never is, on any table
+-- and state: `reset-never` in crates/grounds.
 use Prim.Native.Nat.{_*_, _≤_, ℕ}
 use lib.ListN.{length}
 use mathlib.Core.List.{List}

@@ -1,4 +1,5 @@
 -- How the code speaks of a walk: what it comes to at the record arrived at, apart from the task.
+use Prim.Native.Nat.{ℕ}
 use Rattle.terms.specs.declared.Path.{Path}
 use Rattle.terms.specs.declared.Job.{Job}
 use Rattle.terms.specs.declared.Turn.{Turn}
@@ -9,8 +10,16 @@ use Rattle.terms.specs.declared.TakeStage.the-variants.{TakeGrand}
 use Rattle.terms.specs.declared.SettleStage.the-variants.{SettleGrand}
 use Rattle.terms.specs.declared.Phase.the-variants.{Walk, PuttingIn, TakingOut, Settling}
 use Rattle.terms.specs.Task.{busy}
+use Rattle.machine.specs.Choice.{ifB}
+use Rattle.machine.specs.Record.{wellFormed}
+use Rattle.machine.specs.Table.{View}
+use Rattle.machine.specs.Walk.{sought}
 use Rattle.walk.specs.declared.Arrival.{Arrival}
 use Rattle.walk.specs.declared.Arrival.the-variants.{Lost, On, Puts, Takes, Settles, Ends}
+
+-- the slot that a walk for number k leaves slot s to; 0 where s is not well formed
+unfoldable pub leftTo : View → ℕ → ℕ → ℕ → ℕ
+leftTo v n k s = ifB (wellFormed n s (v s)) (sought k (v s)) 0
 
 -- the turn of a task that walked to q
 unfoldable pub turnAt : Goal → Job → Path → Arrival → Turn

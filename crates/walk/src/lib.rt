@@ -1,5 +1,4 @@
 // The walk, and a reading: decisions on records by value, and the functions that load the records that they name.
-use fields::in_tree;
 use fields::is_leaf;
 use fields::is_level;
 use fields::is_linked;
@@ -30,7 +29,7 @@ ghost use Rattle.machine.specs.Table.{view};
 ghost use Rattle.machine.specs.Walk.{atLeaf, serveArrival, settleArrival, arrival, walkTo, walkFrom, walkOn};
 ghost use Rattle.machine.specs.Commit.{reading};
 ghost use Rattle.terms.specs.declared.Goal.the-variants.{Serve, Settle};
-ghost use Rattle.walk.specs.Arrived.{turnAt};
+ghost use Rattle.walk.specs.Arrived.{leftTo, turnAt};
 ghost use Rattle.machine.proofs.Writes.{calmly};
 
 // The task in another phase.
@@ -146,7 +145,7 @@ fn walk_to(t: &[u32], n: u32, g: Goal, j: Job, q: Path, p: Rec) -> Arrival
 // One step of a walk: it leaves slot s, whose parent is the slot grand.
 pub fn walk_out(t: &[u32], n: u32, g: Goal, j: Job, grand: u32, s: u32) -> Gone
     requires { ⌜ Sized (now t) n ⌝ }
-    ensures { λ r. ⌜ turnAt g j (record { grand = grand; parent = s; here = r .to }) (r .at) ≡ walkFrom (view n (now (t .entry))) n g j grand s ⌝ }
+    ensures { λ r. ⌜ (turnAt g j (record { grand = grand; parent = s; here = r .to }) (r .at) ≡ walkFrom (view n (now (t .entry))) n g j grand s) × (r .to ≡ leftTo (view n (now (t .entry))) n (j .number) s) ⌝ }
 {
     let p = load(t, n, s);
     if !well_formed(n, s, p) {

@@ -12,7 +12,7 @@ use Rattle.state.proofs.ask_fits.Reads as ask-fits-reads
 use Rattle.statecode.proofs.goal_number.Reads as goal-number-reads
 use Rattle.statecode.proofs.is_sound_by.Reads as is-sound-by-reads
 use Rattle.statecode.proofs.no_path.Reads as no-path-reads
-use Rattle.statecode.proofs.store_walker.Reads as store-walker-reads
+use Rattle.statecode.proofs.put_first.Reads as put-first-reads
 use Rattle.statecode.proofs.walker_at.Reads as walker-at-reads
 
 length-fits-requires : tie.Need-length-fits-requires
@@ -54,14 +54,14 @@ goal-number-requires c κs = search needs
 no-path-requires : tie.Need-no-path-requires
 no-path-requires c κs = search needs
 
-store-walker-requires : tie.Need-store-walker-requires
-store-walker-requires c κs = search needs
+put-first-requires : tie.Need-put-first-requires
+put-first-requires c κs = search needs
 
 same-length-3 : tie.Need-same-length-3
 same-length-3 c = search needs
 
 returns-6 : tie.Need-returns-6
-returns-6 c = (begin-done (c .before .before .before .before .before .before .before .before .before .before .before .before .before .before .before .before .before .before .before .before .args .t .now) _ _ _ (c .before .before .before .before .before .before .before .before .before .before .before .before .before .before .before .before .before .length-fits .ensures) (c .before .before .before .before .before .before .before .before .before .before .before .before .before .before .before .before .if1 .left) (omega arith) _ _ _ (c .before .before .before .before .before .before .before .before .before .before .before .before .before .before .ask-fits .ensures) (c .before .before .before .before .before .before .before .before .before .before .before .before .before .if3 .left) _ refl _ (not-busy (c .before .before .before .before .before .before .before .before .before .before .before .before .before .before .before .before .before .before .before .before .args .w .now) _ (omega arith) _ (c .before .before .before .before .before .before .before .before .before .before .before .walker-at .ensures) (c .before .before .before .before .before .before .before .before .before .if4 .left)) refl _ (c .before .before .before .before .before .before .before .is-sound-by .ensures) (c .before .before .before .before .before .before .if5 .left) _ refl _ (begun-stored (c .before .before .before .before .before .before .before .before .before .before .before .before .before .before .before .before .before .before .before .before .args .w .now) _ (omega arith) _ (c .before .before .before .before .before .before .before .before .before .before .before .walker-at .ensures) (c .before .before .before .before .before .before .before .before .before .before .before .before .before .before .before .before .before .before .before .before .pre .1) (c .before .before .before .before .before .before .before .before .before .if4 .left) (c .before .before .before .before .before .before .before .before .before .before .before .before .before .before .before .before .before .before .before .before .args .o) (c .before .before .before .before .before .before .before .before .before .before .before .before .before .before .before .before .before .before .before .before .args .j) _ (c .before .before .before .before .goal-number .ensures) _ (c .before .before .before .no-path .ensures) _ (c .before .before .store-walker .ensures)), begun-own (c .before .before .before .before .before .before .before .before .before .before .before .before .before .before .before .before .before .before .before .before .args .w .now) _ (omega arith) _ (c .before .before .before .before .before .before .before .before .before .before .before .walker-at .ensures) (c .before .before .before .before .before .before .before .before .before .before .before .before .before .before .before .before .before .before .before .before .pre .1) (c .before .before .before .before .before .before .before .before .before .if4 .left) (c .before .before .before .before .before .before .before .before .before .before .before .before .before .before .before .before .before .before .before .before .args .o) (c .before .before .before .before .before .before .before .before .before .before .before .before .before .before .before .before .before .before .before .before .args .j) _ (c .before .before .before .before .goal-number .ensures) _ (c .before .before .before .no-path .ensures) _ (c .before .before .store-walker .ensures))
+returns-6 c = (begin-done (c .before .before .before .before .before .before .before .before .before .before .before .before .before .before .before .before .before .before .before .before .args .t .now) _ _ _ (c .before .before .before .before .before .before .before .before .before .before .before .before .before .before .before .before .before .length-fits .ensures) (c .before .before .before .before .before .before .before .before .before .before .before .before .before .before .before .before .if1 .left) (omega arith) _ _ _ (c .before .before .before .before .before .before .before .before .before .before .before .before .before .before .ask-fits .ensures) (c .before .before .before .before .before .before .before .before .before .before .before .before .before .if3 .left) _ refl _ (not-busy (c .before .before .before .before .before .before .before .before .before .before .before .before .before .before .before .before .before .before .before .before .args .w .now) _ (omega arith) _ (c .before .before .before .before .before .before .before .before .before .before .before .walker-at .ensures) (c .before .before .before .before .before .before .before .before .before .if4 .left)) refl _ (c .before .before .before .before .before .before .before .is-sound-by .ensures) (c .before .before .before .before .before .before .if5 .left) _ refl _ (begun-stored (c .before .before .before .before .before .before .before .before .before .before .before .before .before .before .before .before .before .before .before .before .args .w .now) _ (omega arith) _ (c .before .before .before .before .before .before .before .before .before .before .before .walker-at .ensures) (c .before .before .before .before .before .before .before .before .before .before .before .before .before .before .before .before .before .before .before .before .pre .1) (c .before .before .before .before .before .before .before .before .before .if4 .left) (c .before .before .before .before .before .before .before .before .before .before .before .before .before .before .before .before .before .before .before .before .args .o) (c .before .before .before .before .before .before .before .before .before .before .before .before .before .before .before .before .before .before .before .before .args .j) _ (c .before .before .before .before .goal-number .ensures) _ (c .before .before .before .no-path .ensures) _ (c .before .before .put-first .ensures)), begun-own (c .before .before .before .before .before .before .before .before .before .before .before .before .before .before .before .before .before .before .before .before .args .w .now) _ (omega arith) _ (c .before .before .before .before .before .before .before .before .before .before .before .walker-at .ensures) (c .before .before .before .before .before .before .before .before .before .before .before .before .before .before .before .before .before .before .before .before .pre .1) (c .before .before .before .before .before .before .before .before .before .if4 .left) (c .before .before .before .before .before .before .before .before .before .before .before .before .before .before .before .before .before .before .before .before .args .o) (c .before .before .before .before .before .before .before .before .before .before .before .before .before .before .before .before .before .before .before .before .args .j) _ (c .before .before .before .before .goal-number .ensures) _ (c .before .before .before .no-path .ensures) _ (c .before .before .put-first .ensures))
 
 pub begin-by-spec : {M : Type 1} → statement M
 begin-by-spec =
@@ -80,6 +80,6 @@ begin-by-spec =
     returns-5
     goal-number-requires
     no-path-requires
-    store-walker-requires
+    put-first-requires
     same-length-3
     returns-6)

@@ -5,7 +5,7 @@ use Rattle.tiebeamer.proofs.store_arrival.Statement.{statement}
 use Rattle.tiebeamer.proofs.store_arrival.Tie as tie
 use Rattle.tiebeamer.proofs.store_arrival.Reads as reads
 use Rattle.tiebeamer.proofs.store_arrival.Lts as lts
-use Rattle.statecode.proofs.store_walker.Reads as store-walker-reads
+use Rattle.statecode.proofs.put_first.Reads as put-first-reads
 use Rattle.tiebeamer.proofs.store_turn.Reads as store-turn-reads
 
 enum-told : tie.Need-enum-told
@@ -14,26 +14,26 @@ enum-told c = search needs
 enum-told-2 : tie.Need-enum-told-2
 enum-told-2 c = search needs
 
-store-walker-requires : tie.Need-store-walker-requires
-store-walker-requires c κs = search needs
+put-first-requires : tie.Need-put-first-requires
+put-first-requires c κs = search needs
 
 enum-told-3 : tie.Need-enum-told-3
 enum-told-3 c = search needs
 
-store-walker-requires-2 : tie.Need-store-walker-requires-2
-store-walker-requires-2 c κs = search needs
+put-first-requires-2 : tie.Need-put-first-requires-2
+put-first-requires-2 c κs = search needs
 
 enum-told-4 : tie.Need-enum-told-4
 enum-told-4 c = search needs
 
-store-walker-requires-3 : tie.Need-store-walker-requires-3
-store-walker-requires-3 c κs = search needs
+put-first-requires-3 : tie.Need-put-first-requires-3
+put-first-requires-3 c κs = search needs
 
 enum-told-5 : tie.Need-enum-told-5
 enum-told-5 c = search needs
 
-store-walker-requires-4 : tie.Need-store-walker-requires-4
-store-walker-requires-4 c κs = search needs
+put-first-requires-4 : tie.Need-put-first-requires-4
+put-first-requires-4 c κs = search needs
 
 enum-known-a : tie.Need-enum-known-a
 enum-known-a c = search needs
@@ -54,25 +54,25 @@ same-length : tie.Need-same-length
 same-length c = search needs
 
 returns-2 : tie.Need-returns-2
-returns-2 c = on-stored (c .before .before .before .before .before .before .before .before .args .w .now) (c .before .before .before .before .before .before .before .before .args .i) (c .before .before .before .before .before .before .before .before .args .k) (c .before .before .before .before .before .before .before .before .pre .0) (c .before .before .before .before .before .before .before .before .args .q) (c .before .before .before .before .before .before .before .before .args .a) (c .before .before .before .before .enum-told2 .given .1) _ (c .before .before .store-walker .ensures)
+returns-2 c = on-stored (c .before .before .before .before .before .before .before .before .args .w .now) (c .before .before .before .before .before .before .before .before .args .i) (c .before .before .before .before .before .before .before .before .args .k) (c .before .before .before .before .before .before .before .before .pre .0) (c .before .before .before .before .before .before .before .before .args .q) (c .before .before .before .before .before .before .before .before .args .a) (c .before .before .before .before .enum-told2 .given .1) _ (c .before .before .put-first .ensures)
 
 same-length-2 : tie.Need-same-length-2
 same-length-2 c = search needs
 
 returns-3 : tie.Need-returns-3
-returns-3 c = puts-stored (c .before .before .before .before .before .before .before .before .args .w .now) (c .before .before .before .before .before .before .before .before .args .i) (c .before .before .before .before .before .before .before .before .args .k) (c .before .before .before .before .before .before .before .before .pre .0) (c .before .before .before .before .before .before .before .before .args .q) (c .before .before .before .before .before .before .before .before .args .a) (c .before .before .before .before .enum-told3 .given .1) _ (c .before .before .store-walker2 .ensures)
+returns-3 c = puts-stored (c .before .before .before .before .before .before .before .before .args .w .now) (c .before .before .before .before .before .before .before .before .args .i) (c .before .before .before .before .before .before .before .before .args .k) (c .before .before .before .before .before .before .before .before .pre .0) (c .before .before .before .before .before .before .before .before .args .q) (c .before .before .before .before .before .before .before .before .args .a) (c .before .before .before .before .enum-told3 .given .1) _ (c .before .before .put-first2 .ensures)
 
 same-length-3 : tie.Need-same-length-3
 same-length-3 c = search needs
 
 returns-4 : tie.Need-returns-4
-returns-4 c = takes-stored (c .before .before .before .before .before .before .before .before .args .w .now) (c .before .before .before .before .before .before .before .before .args .i) (c .before .before .before .before .before .before .before .before .args .k) (c .before .before .before .before .before .before .before .before .pre .0) (c .before .before .before .before .before .before .before .before .args .q) (c .before .before .before .before .before .before .before .before .args .a) (c .before .before .before .before .enum-told4 .given .1) _ (c .before .before .store-walker3 .ensures)
+returns-4 c = takes-stored (c .before .before .before .before .before .before .before .before .args .w .now) (c .before .before .before .before .before .before .before .before .args .i) (c .before .before .before .before .before .before .before .before .args .k) (c .before .before .before .before .before .before .before .before .pre .0) (c .before .before .before .before .before .before .before .before .args .q) (c .before .before .before .before .before .before .before .before .args .a) (c .before .before .before .before .enum-told4 .given .1) _ (c .before .before .put-first3 .ensures)
 
 same-length-4 : tie.Need-same-length-4
 same-length-4 c = search needs
 
 returns-5 : tie.Need-returns-5
-returns-5 c = settles-stored (c .before .before .before .before .before .before .before .before .args .w .now) (c .before .before .before .before .before .before .before .before .args .i) (c .before .before .before .before .before .before .before .before .args .k) (c .before .before .before .before .before .before .before .before .pre .0) (c .before .before .before .before .before .before .before .before .args .q) (c .before .before .before .before .before .before .before .before .args .a) (c .before .before .before .before .enum-told5 .given .1) _ (c .before .before .store-walker4 .ensures)
+returns-5 c = settles-stored (c .before .before .before .before .before .before .before .before .args .w .now) (c .before .before .before .before .before .before .before .before .args .i) (c .before .before .before .before .before .before .before .before .args .k) (c .before .before .before .before .before .before .before .before .pre .0) (c .before .before .before .before .before .before .before .before .args .q) (c .before .before .before .before .before .before .before .before .args .a) (c .before .before .before .before .enum-told5 .given .1) _ (c .before .before .put-first4 .ensures)
 
 same-length-5 : tie.Need-same-length-5
 same-length-5 c = search needs
@@ -86,13 +86,13 @@ store-arrival-spec =
     (tie.spec
     enum-told
     enum-told-2
-    store-walker-requires
+    put-first-requires
     enum-told-3
-    store-walker-requires-2
+    put-first-requires-2
     enum-told-4
-    store-walker-requires-3
+    put-first-requires-3
     enum-told-5
-    store-walker-requires-4
+    put-first-requires-4
     enum-known-a
     slice-read-m
     slice-read-u

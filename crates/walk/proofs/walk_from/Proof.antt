@@ -14,7 +14,7 @@ turn-at-requires : tie.Need-turn-at-requires
 turn-at-requires c κs = search needs
 
 returns : tie.Need-returns
-returns c = c .turn-at .ensures ∙ c .before .walk-out .ensures
+returns c = c .turn-at .ensures ∙ c .before .walk-out .ensures .0
 
 pub walk-from-spec : {M : Type 1} → statement M
 walk-from-spec = tie.close (tie.spec walk-out-requires turn-at-requires returns)

@@ -1,3 +1,4 @@
+use Rattle.walk.proofs.LeftTo.{left-none, left-some}
 use Rattle.machine.specs.Walk.{walkFrom}
 use Rattle.walk.specs.Arrived.{turnAt}
 use Rattle.machine.specs.Choice.{ifB}
@@ -19,7 +20,7 @@ well-formed-requires c κs = search needs
 
 returns : tie.Need-returns
 unfolding turnAt walkFrom ifB
-returns c = simp (← c .before .before .load .ensures, ← c .before .well-formed .ensures, c .if1 .taken)
+returns c = (simp (← c .before .before .load .ensures, ← c .before .well-formed .ensures, c .if1 .taken), left-none _ _ _ _ _ (c .before .before .load .ensures) _ (c .before .well-formed .ensures) (c .if1 .taken))
 
 sought-link-requires : tie.Need-sought-link-requires
 sought-link-requires c κs = search needs
@@ -29,7 +30,7 @@ walk-to-requires c κs = search needs
 
 returns-2 : tie.Need-returns-2
 unfolding walkFrom ifB
-returns-2 c = simp (← c .before .before .before .before .load .ensures, ← c .before .before .before .well-formed .ensures, c .before .before .if1 .left, ← c .before .sought-link .ensures, c .walk-to .ensures)
+returns-2 c = (simp (← c .before .before .before .before .load .ensures, ← c .before .before .before .well-formed .ensures, c .before .before .if1 .left, ← c .before .sought-link .ensures, c .walk-to .ensures), left-some _ _ _ _ _ (c .before .before .before .before .load .ensures) _ (c .before .before .before .well-formed .ensures) (c .before .before .if1 .left) _ (c .before .sought-link .ensures))
 
 pub walk-out-spec : {M : Type 1} → statement M
 walk-out-spec =

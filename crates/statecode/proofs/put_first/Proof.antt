@@ -3,10 +3,10 @@ use native.Mathlib.Omega.{arith}
 use lib.ListN.{length-set}
 use Rattle.statecode.specs.Walking.{putFirst}
 use borrow.Author.Needs.{needs}
-use Rattle.statecode.proofs.store_walker.Statement.{statement}
-use Rattle.statecode.proofs.store_walker.Tie as tie
-use Rattle.statecode.proofs.store_walker.Reads as reads
-use Rattle.statecode.proofs.store_walker.Lts as lts
+use Rattle.statecode.proofs.put_first.Statement.{statement}
+use Rattle.statecode.proofs.put_first.Tie as tie
+use Rattle.statecode.proofs.put_first.Reads as reads
+use Rattle.statecode.proofs.put_first.Lts as lts
 
 mul-b : tie.Need-mul-b
 mul-b c = search needs
@@ -78,8 +78,8 @@ returns : tie.Need-returns
 unfolding putFirst
 returns c = refl
 
-pub store-walker-spec : {M : Type 1} → statement M
-store-walker-spec =
+pub put-first-spec : {M : Type 1} → statement M
+put-first-spec =
     tie.close
     (tie.spec
     mul-b
