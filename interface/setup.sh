@@ -1,5 +1,5 @@
 # shellcheck shell=bash
-# Shell functions shared by try, compare, bench and stack. A script sets `here`, the folder interface, before it reads this
+# Shell functions shared by try, compare and bench. A script sets `here`, the folder interface, before it reads this
 # file. CC names another C compiler.
 : "${here:?the folder interface}"
 top=$(dirname "$here")

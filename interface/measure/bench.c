@@ -142,7 +142,7 @@ static void random_loading(void) {
     loading(0);
 }
 
-/* 90 of 100 look up, the rest put in and take out by turns; a tidy where there is no room. */
+/* 90 of 100 look up, the rest put in or take out at random; a tidy where there is no room. */
 static void day(void) {
     uint32_t fares = made.slots / 4, spread = made.slots / 2;
     fill(fares, spread);
@@ -313,12 +313,8 @@ static void look_ups(uint32_t spread) {
 
 /* Put-ins refused with 15: the scan for room goes over all slots. */
 static void no_room(void) {
-    while (whole(0, TIEBEAMER_PUT_IN, any_number()) != TIEBEAMER_NO_ROOM) {
-        whole(0, TIEBEAMER_TAKE_OUT, below(1000000));
+    while (whole(0, TIEBEAMER_PUT_IN, any_number()) != TIEBEAMER_NO_ROOM)
         made.count = 0;
-    }
-    while (whole(0, TIEBEAMER_TAKE_OUT, 5) == TIEBEAMER_TAKEN_OUT)
-        ;
     from_here();
     while (!full() && made.count < 20000)
         whole(0, TIEBEAMER_PUT_IN, any_number());

@@ -106,7 +106,7 @@ static inline uint32_t reading_next(struct plain_task *k, uint32_t phase) {
     return 0;
 }
 
-/* A reading of r, which must lead to next unless that is 0 and not asked for. */
+/* A reading of r: 17 where it is null, a restart where it was taken off or `fails`, else its links are noted. */
 static inline uint32_t noted(struct plain_task *k, const struct record *r, int fails, uint32_t goal) {
     if (!r)
         return TIEBEAMER_DAMAGED;

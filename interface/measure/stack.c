@@ -76,11 +76,12 @@ static void chain(void) {
     }
 }
 
-/* Every slot an inner record whose left link leads to the next slot; the last one a leaf. */
+/* Every slot an inner record whose left link leads to the next slot; the last one leads back, so that the way is refused. */
 static void damaged(void) {
+    table[4] = 1;
     for (uint32_t slot = 1; slot < SLOTS; slot++) {
-        uint32_t leaf = slot == SLOTS - 1;
-        uint32_t record[] = {1, 5, 0, leaf ? 0 : 1, leaf ? 0 : slot + 1, leaf ? 0 : slot == 1 ? 3 : 1};
+        uint32_t next = slot == SLOTS - 1 ? 1 : slot + 1;
+        uint32_t record[] = {1, 5, 0, 1, next, next == 2 ? 3 : 2};
         memcpy(table + TIEBEAMER_SLOT_NUMBERS * slot, record, sizeof record);
     }
 }
@@ -111,6 +112,22 @@ static void rows(const char *what) {
     memcpy(table, kept, sizeof kept);
 }
 
+/* The step that needs most, of put-ins that settle by each kind of commit and of a take-out. */
+static void steps(void) {
+    static const uint32_t numbers[] = {10, 30, 20, 25, 5, 4, 3, 2, 1, 25};
+    size_t nothing = used_by(NOTHING), most = 0, count = sizeof numbers / sizeof *numbers;
+    memset(state, 0, sizeof state);
+    side->reset(TABLE, STATE);
+    for (size_t i = 0; i < count; i++) {
+        side->begin(TABLE, STATE, 0, i + 1 < count ? TIEBEAMER_PUT_IN : TIEBEAMER_TAKE_OUT, numbers[i], 0);
+        do {
+            size_t used = used_by(STEP);
+            most = used > most ? used : most;
+        } while (answer == 0);
+    }
+    printf("| settling | step | %u | %zu |\n", answer, most - nothing);
+}
+
 int main(int words, char **word) {
     uint32_t figures[TIEBEAMER_FIGURES] = {0};
     side = words > 1 && !strcmp(word[1], "plain") ? &plain_side : &archive_side;
@@ -120,5 +137,6 @@ int main(int words, char **word) {
     rows("chain");
     damaged();
     rows("damaged");
+    steps();
     return 0;
 }
