@@ -1,4 +1,5 @@
 // The allowed rank, read off a table of the first 32 Fibonacci numbers.
+#![tactic(auto)]
 ghost use Rattle.std.specs.Prelude.{◌≡◌, ◌+◌, ◌*◌, ◌≤◌, ◌<◌, get_or, drop};
 ghost use Rattle.machine.specs.Allowed.{fibonacci, fib, at_most, allowed_rank};
 

@@ -1,4 +1,5 @@
 // A record of a call file: its call, the run of operation 4, and the numbers of its printed line.
+#![tactic(auto)]
 ghost use Rattle.std.specs.Prelude.{◌≡◌, ◌&&◌, not, ◌+◌, ◌-◌, ◌*◌, ◌≤◌, ◌<◌, length};
 ghost use Rattle.machine.specs.Contract.{after};
 ghost use Rattle.machine.specs.Answers.{price_of};
@@ -152,7 +153,7 @@ fn serve_call(t: &mut [u32], st: State, c: Call) -> Out
 }
 
 // The numbers of a printed line.
-#[derive(Drop)]
+#[derive(Clone, Copy)]
 pub struct Line {
     pub place: u64,
     pub operation: u32,
@@ -210,7 +211,7 @@ fn line_of(place: u64, b: &[u8], a: Answer) -> Line
 }
 
 // What a record hands back beside the table.
-#[derive(Drop)]
+#[derive(Clone, Copy)]
 pub struct Served {
     pub state: State,
     pub line: Line,

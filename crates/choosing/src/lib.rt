@@ -1,4 +1,5 @@
 // Settling: each step chooses by the links noted so far.
+#![tactic(auto)]
 ghost use Rattle.std.specs.Prelude.{◌≡◌, ◌+◌, ◌-◌, ◌*◌, ◌≤◌, ◌<◌};
 ghost use Rattle.machine.specs.Contract.{Sized, acted, played};
 ghost use Rattle.machine.specs.Table.{view};

@@ -1,1 +1,2 @@
 // Each commit changes one place of the tree. No code.
+#![tactic(auto)]

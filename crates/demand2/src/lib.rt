@@ -1,1 +1,2 @@
 // Demand 2 as a theorem. No code.
+#![tactic(auto)]

@@ -1,1 +1,2 @@
 // Demand 3 as a theorem. No code.
+#![tactic(auto)]

@@ -1,4 +1,5 @@
 // The call-file program: standard input, 64 slots.
+#![tactic(auto)]
 use libc::STDIN_FILENO;
 use playing::play;
 

@@ -1,4 +1,5 @@
 // Records by value: the only crate that knows where a field stands. Reading a slot, the tests of a record, and the three writes.
+#![tactic(auto)]
 ghost use Rattle.std.specs.Prelude.{◌≡◌, ◌+◌, ◌-◌, ◌*◌, ◌/◌, ◌≤◌, ◌<◌, length, ◌&&◌, ◌||◌};
 ghost use Rattle.machine.specs.Contract.{Sized};
 ghost use Rattle.machine.specs.Record.{fare_marks, inner_marks, is_link, is_inner, entry_form, in_tree, sentinel, is_leaf, well_formed, linked, level, is_fare, leads, links_of, still, other};

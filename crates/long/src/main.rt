@@ -1,4 +1,5 @@
 // Long rides: each argument names a call file of data/; its name and all that the call-file program prints for it.
+#![tactic(auto)]
 use libc::STDOUT_FILENO;
 use playing::play;
 

@@ -1,1 +1,2 @@
 // Every level record has an owner. No code.
+#![tactic(auto)]

@@ -1,4 +1,5 @@
 // A call file is read from a descriptor to its end and printed: a line for each record, then the figures. Only reading and printing stand here.
+#![tactic(auto)]
 use callfile::{Line, serve_record};
 use libc::STDOUT_FILENO;
 use resetting::reset;
@@ -36,7 +37,7 @@ fn print_end(f: Figures) {
     io::write_all(STDOUT_FILENO, b"\n");
 }
 
-#[derive(Drop)]
+#[derive(Clone, Copy)]
 struct After {
     state: State,
     more: bool,

@@ -1,1 +1,2 @@
 // The potential, and what each commit makes of it. No code.
+#![tactic(auto)]

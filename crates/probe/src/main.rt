@@ -1,4 +1,5 @@
 // The probe: one call after another, each on a table and a state that are handed in (docs/PROBE.md).
+#![tactic(auto)]
 ghost use Rattle.std.specs.Prelude.{◌≡◌, ◌*◌, ◌≤◌, ◌<◌, length};
 
 use beginning::{abandon, begin};
@@ -67,7 +68,7 @@ fn print_state(st: State) {
 }
 
 // The seven numbers before state and table.
-#[derive(Drop)]
+#[derive(Clone, Copy)]
 struct Ask {
     call: u32,
     operation: u32,

@@ -1,1 +1,2 @@
 // Progress: how many steps a task needs. No code.
+#![tactic(auto)]

@@ -1,4 +1,5 @@
 // What the entry reaches: its counts by a walk down the links, the sweep of what is not reached, and the fares in their order.
+#![tactic(auto)]
 ghost use Rattle.std.specs.Prelude.{◌≡◌, ◌&&◌, ◌+◌, ◌-◌, ◌*◌, ◌≤◌, ◌<◌, eqb, length, get_or, replicate};
 ghost use Rattle.machine.specs.Contract.{Sized};
 ghost use Rattle.machine.specs.Record.{in_tree, is_fare, linked};
@@ -18,7 +19,7 @@ use state::one_if;
 use terms::Rec;
 
 // What stands below a slot, its own record with it; `left` slots are not marked then.
-#[derive(Drop)]
+#[derive(Clone, Copy)]
 pub struct Below {
     pub fine: bool,
     pub left: u32,
@@ -185,7 +186,7 @@ pub fn sweep_all(t: &mut [u32], marks: &[u8], n: u32)
 }
 
 // Where the next fare is written, and how many slots are not visited yet.
-#[derive(Drop)]
+#[derive(Clone, Copy)]
 pub struct Written {
     pub at: usize,
     pub left: u32,

@@ -1,1 +1,2 @@
 // What a refusal leaves. No code.
+#![tactic(auto)]

@@ -1,4 +1,5 @@
 // Room: the lowest-numbered free slots, and how many there are.
+#![tactic(auto)]
 ghost use Rattle.std.specs.Prelude.{◌≡◌, ◌+◌, ◌-◌, ◌*◌, ◌≤◌, ◌<◌, eqb, length};
 ghost use Rattle.machine.specs.Choice.{if_b};
 ghost use Rattle.machine.specs.Contract.{Sized};
@@ -26,13 +27,13 @@ fn free_from(t: &[u32], n: u32, from: u32) -> u32
 }
 
 // Two slots, in the order in which new records take them.
-#[derive(Drop)]
+#[derive(Clone, Copy)]
 pub struct Pair {
     pub first: u32,
     pub second: u32,
 }
 
-#[derive(Drop)]
+#[derive(Clone, Copy)]
 pub struct Triple {
     pub first: u32,
     pub second: u32,

@@ -1,1 +1,2 @@
 // Routes, level records, and what every commit keeps. No code.
+#![tactic(auto)]

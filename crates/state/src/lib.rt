@@ -1,4 +1,5 @@
 // The state by value: the counts over its eight tasks, its soundness, and a task's turn stored in it.
+#![tactic(auto)]
 ghost use Rattle.std.specs.Prelude.{◌≡◌, ◌&&◌, ◌+◌, ◌-◌, ◌*◌, ◌≤◌, ◌<◌};
 ghost use Rattle.machine.specs.State.{one, settling, busy_tasks, sound, job_fits, ask_fits, may_price, with_task, fresh_state};
 ghost use Rattle.machine.specs.Contract.{turned_out};

@@ -1,4 +1,5 @@
 // A state as 122 numbers, and back (docs/PROBE.md): eight tasks of 15 numbers each, then m, then u.
+#![tactic(auto)]
 ghost use Rattle.std.specs.Prelude.{◌≡◌, ◌++◌, ◌+◌, ◌*◌, ◌≤◌, ◌<◌, length, get_or, take, drop, set, true};
 ghost use Rattle.std.proofs.Math.Seq.{paste};
 ghost use Rattle.terms.specs.Task.{work_settles};
@@ -13,13 +14,13 @@ use terms::{
 };
 
 // The numbers of one task.
-#[derive(Drop)]
+#[derive(Clone, Copy)]
 pub struct Row {
     pub at: [u32; 15],
 }
 
 // A task on its way, without its notes: its numbers 0 to 3, 5 and 6.
-#[derive(Drop)]
+#[derive(Clone, Copy)]
 pub struct Walker {
     pub phase: u32,
     pub job: Job,
@@ -29,7 +30,7 @@ pub struct Walker {
 }
 
 // A state, or numbers that are none.
-#[derive(Drop)]
+#[derive(Clone, Copy)]
 pub struct GotState {
     pub fine: bool,
     pub state: State,

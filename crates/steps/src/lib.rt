@@ -1,1 +1,2 @@
 // What each step does to the tree and to the task. No code.
+#![tactic(auto)]

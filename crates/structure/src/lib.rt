@@ -1,1 +1,2 @@
 // Structure from a reset as theorems. No code.
+#![tactic(auto)]

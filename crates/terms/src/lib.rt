@@ -1,9 +1,10 @@
 // The types of document 01, shared by its definitions and by the code, and what a task does by itself.
+#![tactic(auto)]
 ghost use Rattle.std.specs.Prelude.{◌≡◌};
 ghost use Rattle.terms.specs.Task.{idle_task, begun, noted, noted_put, noted_take, noted_settle, noted_phase, goal_of, restarted, abandoned, goal_settles, work_settles, is_busy};
 
 // A slot of the table: six numbers.
-#[derive(Drop)]
+#[derive(Clone, Copy)]
 pub struct Rec {
     pub state: u32,
     pub number: u32,
@@ -14,14 +15,14 @@ pub struct Rec {
 }
 
 // Both links of a record, as a reading notes them.
-#[derive(Drop)]
+#[derive(Clone, Copy)]
 pub struct Links {
     pub left: u32,
     pub right: u32,
 }
 
 // The last three records of a walk. `grand` is 4,294,967,295 while there is no grandparent: the parent is the entry.
-#[derive(Drop)]
+#[derive(Clone, Copy)]
 pub struct Path {
     pub grand: u32,
     pub parent: u32,
@@ -29,13 +30,13 @@ pub struct Path {
 }
 
 // What begin hands in beside the operation.
-#[derive(Drop)]
+#[derive(Clone, Copy)]
 pub struct Job {
     pub number: u32,
     pub price: u32,
 }
 
-#[derive(Drop)]
+#[derive(Clone, Copy)]
 pub enum Operation {
     LookUp,
     PutIn,
@@ -43,14 +44,14 @@ pub enum Operation {
 }
 
 // What a task walks for.
-#[derive(Drop)]
+#[derive(Clone, Copy)]
 pub enum Goal {
     Serve(Operation),
     Settle,
 }
 
 // A put-in after its walk, by what it does next, with the links noted so far: parent, leaf.
-#[derive(Drop)]
+#[derive(Clone, Copy)]
 pub enum PutStage {
     PutParent,
     PutLeaf(Links),
@@ -58,7 +59,7 @@ pub enum PutStage {
 }
 
 // A take-out after its walk: grandparent, parent, parent's left child, its right child.
-#[derive(Drop)]
+#[derive(Clone, Copy)]
 pub enum TakeStage {
     TakeGrand,
     TakeParent(Links),
@@ -68,7 +69,7 @@ pub enum TakeStage {
 }
 
 // A settling task that stands on a level record: pz, z, x, y. From the third stage on the step chooses.
-#[derive(Drop)]
+#[derive(Clone, Copy)]
 pub enum SettleStage {
     SettleGrand,
     SettleParent(Links),
@@ -77,7 +78,7 @@ pub enum SettleStage {
     SettleDouble(Links, Links, Links, Links),
 }
 
-#[derive(Drop)]
+#[derive(Clone, Copy)]
 pub enum Phase {
     Start(Goal),
     Walk(Goal, Path),
@@ -86,18 +87,18 @@ pub enum Phase {
     Settling(Path, SettleStage),
 }
 
-#[derive(Drop)]
+#[derive(Clone, Copy)]
 pub enum Work {
     Idle,
     Busy(Job, Phase),
 }
 
-#[derive(Drop)]
+#[derive(Clone, Copy)]
 pub struct Task {
     pub work: Work,
 }
 
-#[derive(Drop)]
+#[derive(Clone, Copy)]
 pub struct State {
     pub tasks: [Task; 8],
     pub m: u32,
@@ -105,7 +106,7 @@ pub struct State {
 }
 
 // The answers and refusals of document 01, in its order.
-#[derive(Drop)]
+#[derive(Clone, Copy)]
 pub enum Answer {
     Accepted,
     Found(u32),
@@ -127,7 +128,7 @@ pub enum Answer {
 }
 
 // What a step comes to for its task: 17 and no change, another phase, or the end.
-#[derive(Drop)]
+#[derive(Clone, Copy)]
 pub enum Turn {
     Hurt,
     Next(Task),
@@ -135,21 +136,21 @@ pub enum Turn {
 }
 
 // What a step's phase comes to: the task's turn, and whether a put-in committed.
-#[derive(Drop)]
+#[derive(Clone, Copy)]
 pub struct Outcome {
     pub turn: Turn,
     pub committed: bool,
 }
 
 // What a call hands back beside the table.
-#[derive(Drop)]
+#[derive(Clone, Copy)]
 pub struct Out {
     pub state: State,
     pub answer: Answer,
 }
 
 // The rows of the settling table that z and s decide.
-#[derive(Drop)]
+#[derive(Clone, Copy)]
 pub enum ParentRow {
     Outranked,
     Promote,
@@ -157,7 +158,7 @@ pub enum ParentRow {
 }
 
 // The rows that x, y and w decide.
-#[derive(Drop)]
+#[derive(Clone, Copy)]
 pub enum LevelRow {
     NoRow,
     RotateOne,
@@ -166,7 +167,7 @@ pub enum LevelRow {
 }
 
 // Where the records around a level record stand: z under pz, x under z (true: the left child), and the slots s, y and w.
-#[derive(Drop)]
+#[derive(Clone, Copy)]
 pub struct Around {
     pub high: bool,
     pub side: bool,
@@ -175,7 +176,7 @@ pub struct Around {
     pub w: u32,
 }
 
-#[derive(Drop)]
+#[derive(Clone, Copy)]
 pub struct Figures {
     pub height: u32,
     pub level: u32,
@@ -187,14 +188,14 @@ pub struct Figures {
 }
 
 // What figures hands back.
-#[derive(Drop)]
+#[derive(Clone, Copy)]
 pub struct Report {
     pub answer: Answer,
     pub figures: Figures,
 }
 
 // A record of a call file.
-#[derive(Drop)]
+#[derive(Clone, Copy)]
 pub enum Call {
     Begin(Operation, u32, Job),
     Steps(u32, u32),

@@ -1,5 +1,6 @@
 // The fare table for C and Rust: table and state are lent as slices of 32-bit numbers, an answer is its number
 // (docs/INTERFACE.md). Each call is one equation to its definition, and none has a `requires`.
+#![tactic(auto)]
 ghost use Rattle.std.specs.Prelude.{◌≡◌, true, false, ◌≤◌, ◌<◌, length, get_or};
 ghost use Rattle.machine.specs.Contract.{Sized, after, turned_out};
 ghost use Rattle.machine.specs.Step.{step_work, step_of};

@@ -1,1 +1,2 @@
 // Trees with slots, a hole, order and ranks. No code.
+#![tactic(auto)]

@@ -1,1 +1,2 @@
 // From a reset nothing is ever damaged. No code.
+#![tactic(auto)]

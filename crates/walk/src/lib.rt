@@ -1,4 +1,5 @@
 // The walk, and a reading: decisions on records by value, and the functions that load the records that they name.
+#![tactic(auto)]
 ghost use Rattle.std.specs.Prelude.{◌≡◌, ◌+◌, ◌-◌, ◌*◌, ◌≤◌, ◌<◌};
 ghost use Rattle.terms.specs.Task.{busy};
 ghost use Rattle.machine.specs.Contract.{Sized};
@@ -35,7 +36,7 @@ pub fn calm_turn(a: Turn) -> Outcome
 }
 
 // What a walk comes to at the record arrived at: 17, on with the walk, on to the readings of an operation, or the end.
-#[derive(Drop)]
+#[derive(Clone, Copy)]
 pub enum Arrival {
     Lost,
     On,
@@ -46,7 +47,7 @@ pub enum Arrival {
 }
 
 // A link was followed: where it leads, and what the walk comes to there.
-#[derive(Drop)]
+#[derive(Clone, Copy)]
 pub struct Gone {
     pub to: u32,
     pub at: Arrival,
