@@ -9,6 +9,7 @@ use state::{ask_fits, is_sound, with_counts, with_task};
 use terms::{Answer, Job, Operation, Out, State, Task};
 
 // Task i begins an operation.
+#[tactic(auto, unfolding(machine::specs::Contract::after, machine::specs::Calls::begin_of, machine::specs::Choice::if_b))]
 pub fn begin(t: &[u32], st: State, i: u32, o: Operation, j: Job) -> Out
     ensures { after t.now result ≡ begin_of t.now st i o j }
 {
@@ -51,6 +52,7 @@ pub fn begin(t: &[u32], st: State, i: u32, o: Operation, j: Job) -> Out
 }
 
 // Task i, which is k, is abandoned.
+#[tactic(auto, unfolding(machine::specs::Calls::abandoned_out, machine::specs::Choice::if_b))]
 fn abandon_work(st: State, i: usize, k: Task) -> Out
     requires { (i < 8) × (st.m ≤ 1000000) × (st.u ≤ 1000000) }
     ensures { result ≡ abandoned_out st i k }
@@ -68,6 +70,7 @@ fn abandon_work(st: State, i: usize, k: Task) -> Out
 }
 
 // Task i is abandoned.
+#[tactic(auto, unfolding(machine::specs::Contract::after, machine::specs::Calls::abandon_of, machine::specs::Choice::if_b))]
 pub fn abandon(t: &[u32], st: State, i: u32) -> Out
     ensures { after t.now result ≡ abandon_of t.now st i }
 {

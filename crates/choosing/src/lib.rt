@@ -16,6 +16,7 @@ use terms::{Around, Job, LevelRow, Links, Outcome, ParentRow, Path, Rec, SettleS
 use walk::calm_turn;
 
 // What a step that must choose reads.
+#[tactic(auto, unfolding(machine::specs::Settling::choose_formed, machine::specs::Choice::if_b))]
 fn choose_formed(n: u32, q: Path, b: Links, z: Rec, x: Rec, s: Rec) -> bool
     ensures { result ≡ choose_formed n q b z x s }
 {
@@ -23,6 +24,7 @@ fn choose_formed(n: u32, q: Path, b: Links, z: Rec, x: Rec, s: Rec) -> bool
     well_formed(n, q.parent, z) & (is_linked(n, q.here, x) & is_linked(n, i, s))
 }
 
+#[tactic(auto, unfolding(machine::specs::Settling::turn_formed, machine::specs::Choice::if_b))]
 fn turn_formed(n: u32, o: Around, y: Rec, w: Rec) -> bool
     ensures { result ≡ turn_formed n o y w }
 {
@@ -30,6 +32,7 @@ fn turn_formed(n: u32, o: Around, y: Rec, w: Rec) -> bool
 }
 
 // pz and z noted: promote, or read x.
+#[tactic(auto, unfolding(machine::specs::Contract::acted, machine::specs::Contract::played, machine::specs::Settling::choose_by, machine::specs::Choice::if_b))]
 fn choose_by(
     t: &mut [u32],
     n: u32,
@@ -57,6 +60,7 @@ fn choose_by(
     promote_by(t, n, row, j, q, a, b, z)
 }
 
+#[tactic(auto, unfolding(machine::specs::Contract::acted, machine::specs::Contract::played, machine::specs::Settling::choose_step, machine::specs::Choice::if_b))]
 fn choose_step(
     t: &mut [u32],
     n: u32,
@@ -78,6 +82,7 @@ fn choose_step(
 }
 
 // x noted too: rotate, or read y.
+#[tactic(auto, unfolding(machine::specs::Contract::acted, machine::specs::Contract::played, machine::specs::Settling::rotate_on, machine::specs::Choice::if_b))]
 fn rotate_on(
     t: &mut [u32],
     n: u32,
@@ -107,6 +112,7 @@ fn rotate_on(
     rotate_by(t, n, row, j, q, around_of(q, a, b, c), z, x)
 }
 
+#[tactic(auto, unfolding(machine::specs::Contract::acted, machine::specs::Contract::played, machine::specs::Settling::rotate_turn, machine::specs::Choice::if_b))]
 fn rotate_turn(
     t: &mut [u32],
     n: u32,
@@ -143,6 +149,7 @@ fn rotate_turn(
 }
 
 // A promote whose x was read.
+#[tactic(auto, unfolding(machine::specs::Contract::acted, machine::specs::Contract::played, machine::specs::Settling::commit_three, machine::specs::Settling::promote_by, machine::specs::Choice::if_b))]
 fn promote_three(
     t: &mut [u32],
     n: u32,
@@ -168,6 +175,7 @@ fn promote_three(
     promote_by(t, n, row, j, q, a, b, z)
 }
 
+#[tactic(auto, unfolding(machine::specs::Contract::acted, machine::specs::Contract::played, machine::specs::Settling::rotate_first, machine::specs::Choice::if_b))]
 fn rotate_first(
     t: &mut [u32],
     n: u32,
@@ -192,6 +200,7 @@ fn rotate_first(
     promote_three(t, n, row, j, q, a, b, c, z, x)
 }
 
+#[tactic(auto, unfolding(machine::specs::Contract::acted, machine::specs::Contract::played, machine::specs::Settling::rotate_step, machine::specs::Choice::if_b))]
 fn rotate_step(
     t: &mut [u32],
     n: u32,
@@ -214,6 +223,7 @@ fn rotate_step(
 }
 
 // y noted too: the commit, by the ranks found now.
+#[tactic(auto, unfolding(machine::specs::Contract::acted, machine::specs::Contract::played, machine::specs::Settling::double_turn, machine::specs::Choice::if_b))]
 fn double_turn(
     t: &mut [u32],
     n: u32,
@@ -246,6 +256,7 @@ fn double_turn(
 }
 
 // A promote whose x and y were read; i is y's slot.
+#[tactic(auto, unfolding(machine::specs::Contract::acted, machine::specs::Contract::played, machine::specs::Settling::commit_four, machine::specs::Settling::promote_by, machine::specs::Choice::if_b))]
 fn promote_four(
     t: &mut [u32],
     n: u32,
@@ -274,6 +285,7 @@ fn promote_four(
     promote_by(t, n, row, j, q, a, b, z)
 }
 
+#[tactic(auto, unfolding(machine::specs::Contract::acted, machine::specs::Contract::played, machine::specs::Settling::double_first, machine::specs::Choice::if_b))]
 fn double_first(
     t: &mut [u32],
     n: u32,
@@ -299,6 +311,7 @@ fn double_first(
     promote_four(t, n, row, j, q, a, b, c, d, o.y, z, x)
 }
 
+#[tactic(auto, unfolding(machine::specs::Contract::acted, machine::specs::Contract::played, machine::specs::Settling::double_step, machine::specs::Choice::if_b))]
 fn double_step(
     t: &mut [u32],
     n: u32,
@@ -322,6 +335,7 @@ fn double_step(
 }
 
 // A step of a settling task that stands on a level record.
+#[tactic(auto, unfolding(machine::specs::Contract::acted, machine::specs::Contract::played, machine::specs::Settling::settle_step, machine::specs::Choice::if_b))]
 pub fn settle_step(t: &mut [u32], n: u32, j: Job, q: Path, f: SettleStage) -> Outcome
     requires { Sized t.old n }
     ensures { acted t.new result ≡ played t.old (settle_step (view n t.old) n j q f) }

@@ -1,5 +1,6 @@
 // Records by value: the only crate that knows where a field stands. Reading a slot, the tests of a record, and the three writes.
 #![tactic(auto)]
+
 ghost use Rattle.std.specs.Prelude.{◌≡◌, ◌+◌, ◌-◌, ◌*◌, ◌/◌, ◌≤◌, ◌<◌, length, ◌&&◌, ◌||◌};
 ghost use Rattle.machine.specs.Contract.{Sized};
 ghost use Rattle.machine.specs.Record.{fare_marks, inner_marks, is_link, is_inner, entry_form, in_tree, sentinel, is_leaf, well_formed, linked, level, is_fare, leads, links_of, still, other};
@@ -9,6 +10,7 @@ ghost use Rattle.machine.specs.Walk.{sought, outranks};
 use terms::{Links, Rec};
 
 // Whether a table may be so many numbers long.
+#[tactic(auto, unfolding(machine::specs::Table::length_fits))]
 pub fn length_fits(l: usize) -> bool
     ensures { result ≡ length_fits l }
 {
@@ -24,6 +26,7 @@ pub fn slots_of(l: usize) -> u32
 }
 
 // A record by value. Beyond the table it reads as a free one.
+#[tactic(auto, unfolding(machine::specs::Table::view, machine::specs::Table::place, machine::specs::Choice::if_b))]
 pub fn load(t: &[u32], n: u32, s: u32) -> Rec
     requires { Sized t.now n }
     ensures { result ≡ view n t.now s }
@@ -50,6 +53,7 @@ pub fn load(t: &[u32], n: u32, s: u32) -> Rec
 }
 
 // The state alone, for the scans.
+#[tactic(auto, unfolding(machine::specs::Table::view, machine::specs::Table::place, machine::specs::Choice::if_b))]
 pub fn state_at(t: &[u32], n: u32, s: u32) -> u32
     requires { Sized t.now n × (s < n) }
     ensures { result ≡ (view n t.now s).state }
@@ -58,6 +62,7 @@ pub fn state_at(t: &[u32], n: u32, s: u32) -> u32
 }
 
 // A whole record is written.
+#[tactic(auto, unfolding(machine::specs::Table::put, machine::specs::Table::place))]
 pub fn put_fill(t: &mut [u32], n: u32, s: u32, r: Rec)
     requires { Sized t.old n × (s < n) }
     ensures { t.new ≡ put t.old (fill s r) }
@@ -72,6 +77,7 @@ pub fn put_fill(t: &mut [u32], n: u32, s: u32, r: Rec)
 }
 
 // A record is taken off.
+#[tactic(auto, unfolding(machine::specs::Table::put, machine::specs::Table::place))]
 pub fn put_off(t: &mut [u32], n: u32, s: u32)
     requires { Sized t.old n × (s < n) }
     ensures { t.new ≡ put t.old (off s) }
@@ -80,6 +86,7 @@ pub fn put_off(t: &mut [u32], n: u32, s: u32)
 }
 
 // A link now leads to another slot; true is left.
+#[tactic(auto, unfolding(machine::specs::Table::put, machine::specs::Table::place))]
 pub fn put_lead(t: &mut [u32], n: u32, s: u32, left: bool, to: u32)
     requires { Sized t.old n × (s < n) }
     ensures { t.new ≡ put t.old (lead s left to) }
@@ -92,18 +99,21 @@ pub fn put_lead(t: &mut [u32], n: u32, s: u32, left: bool, to: u32)
     t[i + 5] = to;
 }
 
+#[tactic(auto, unfolding(machine::specs::Record::in_tree))]
 pub fn in_tree(r: Rec) -> bool
     ensures { result ≡ in_tree r }
 {
     r.state == 1
 }
 
+#[tactic(auto, unfolding(machine::specs::Record::sentinel))]
 fn is_sentinel(r: Rec) -> bool
     ensures { result ≡ sentinel r }
 {
     (r.number == 4294967295) & ((r.rank == 255) & (r.price == 0))
 }
 
+#[tactic(auto, unfolding(machine::specs::Record::is_leaf))]
 pub fn is_leaf(r: Rec) -> bool
     ensures { result ≡ is_leaf r }
 {
@@ -111,6 +121,7 @@ pub fn is_leaf(r: Rec) -> bool
 }
 
 // Whether the marks of a leaf fit: a sentinel, or a fare.
+#[tactic(auto, unfolding(machine::specs::Record::fare_marks, machine::specs::Record::number_fits, machine::specs::Record::price_fits))]
 fn leaf_marked(r: Rec) -> bool
     ensures { result ≡ (sentinel r || fare_marks r) }
 {
@@ -118,6 +129,7 @@ fn leaf_marked(r: Rec) -> bool
 }
 
 // Whether a link leads somewhere, in a table of n slots.
+#[tactic(auto, unfolding(machine::specs::Record::is_link))]
 fn is_link(n: u32, s: u32) -> bool
     ensures { result ≡ is_link n s }
 {
@@ -125,6 +137,7 @@ fn is_link(n: u32, s: u32) -> bool
 }
 
 // Whether a record with links is well formed as an inner one.
+#[tactic(auto, unfolding(machine::specs::Record::is_inner, machine::specs::Record::inner_marks, machine::specs::Record::number_fits))]
 fn inner_formed(n: u32, r: Rec) -> bool
     ensures { result ≡ (is_inner n r && (sentinel r || inner_marks r)) }
 {
@@ -134,6 +147,7 @@ fn inner_formed(n: u32, r: Rec) -> bool
 }
 
 // Whether a record is well formed as the entry.
+#[tactic(auto, unfolding(machine::specs::Record::entry_form))]
 fn entry_formed(n: u32, r: Rec) -> bool
     ensures { result ≡ entry_form n r }
 {
@@ -141,6 +155,7 @@ fn entry_formed(n: u32, r: Rec) -> bool
 }
 
 // Whether a record of slot s is well formed, in a table of n slots: by state, slot and links, so that few tests are made.
+#[tactic(auto, unfolding(machine::specs::Record::well_formed, machine::specs::Record::plain_form))]
 pub fn well_formed(n: u32, s: u32, r: Rec) -> bool
     ensures { result ≡ well_formed n s r }
 {
@@ -157,6 +172,7 @@ pub fn well_formed(n: u32, s: u32, r: Rec) -> bool
 }
 
 // The same of a record that a link leads to.
+#[tactic(auto, unfolding(machine::specs::Record::linked))]
 pub fn is_linked(n: u32, s: u32, r: Rec) -> bool
     ensures { result ≡ linked n s r }
 {
@@ -164,18 +180,21 @@ pub fn is_linked(n: u32, s: u32, r: Rec) -> bool
 }
 
 // Whether r is level below p.
+#[tactic(auto, unfolding(machine::specs::Record::level))]
 pub fn is_level(p: Rec, r: Rec) -> bool
     ensures { result ≡ level p r }
 {
     !is_sentinel(r) & (r.rank == p.rank)
 }
 
+#[tactic(auto, unfolding(machine::specs::Record::is_fare))]
 pub fn is_fare(r: Rec) -> bool
     ensures { result ≡ is_fare r }
 {
     is_leaf(r) & !is_sentinel(r)
 }
 
+#[tactic(auto, unfolding(machine::specs::Walk::outranks))]
 pub fn outranks(h: Rec, p: Rec) -> bool
     ensures { result ≡ outranks h p }
 {
@@ -192,6 +211,7 @@ pub fn links_of(r: Rec) -> Links
 }
 
 // Whether one of two links leads to a record.
+#[tactic(auto, unfolding(machine::specs::Record::leads))]
 pub fn lead_to(a: Links, s: u32) -> bool
     ensures { result ≡ leads a s }
 {
@@ -199,6 +219,7 @@ pub fn lead_to(a: Links, s: u32) -> bool
 }
 
 // Whether a record is still in the tree with both links as noted.
+#[tactic(auto, unfolding(machine::specs::Record::still, machine::specs::Record::in_tree))]
 pub fn is_still(r: Rec, a: Links) -> bool
     ensures { result ≡ still r a }
 {
@@ -206,6 +227,7 @@ pub fn is_still(r: Rec, a: Links) -> bool
 }
 
 // The link on the side of the number sought.
+#[tactic(auto, unfolding(machine::specs::Walk::sought, machine::specs::Choice::if_b))]
 pub fn sought_link(k: u32, r: Rec) -> u32
     ensures { result ≡ sought k r }
 {
@@ -216,6 +238,7 @@ pub fn sought_link(k: u32, r: Rec) -> u32
 }
 
 // The link that does not lead to s.
+#[tactic(auto, unfolding(machine::specs::Record::other, machine::specs::Choice::if_b))]
 pub fn other_link(b: Links, s: u32) -> u32
     ensures { result ≡ other b s }
 {

@@ -14,6 +14,7 @@ use terms::{Answer, Goal, Job, Links, Operation, Outcome, Path, Phase, PutStage,
 use walk::{busy_in, calm_turn, read_record};
 
 // The grounds of 17 that the commit looks at before its test.
+#[tactic(auto, unfolding(machine::specs::PutIn::put_grounds, machine::specs::Choice::if_b))]
 fn put_grounds(n: u32, j: Job, q: Path, a: Links, p: Rec, h: Rec) -> bool
     ensures { result ≡ put_grounds n j q a p h }
 {
@@ -22,6 +23,7 @@ fn put_grounds(n: u32, j: Job, q: Path, a: Links, p: Rec, h: Rec) -> bool
     well_formed(n, q.parent, p) & (is_linked(n, q.here, h) & apart)
 }
 
+#[tactic(auto, unfolding(machine::specs::PutIn::put_test, machine::specs::Choice::if_b))]
 fn put_test(a: Links, b: Links, p: Rec, h: Rec) -> bool
     ensures { result ≡ put_test a b p h }
 {
@@ -29,6 +31,7 @@ fn put_test(a: Links, b: Links, p: Rec, h: Rec) -> bool
 }
 
 // A fresh leaf: a fare's, or a sentinel's.
+#[tactic(auto, unfolding(machine::specs::PutIn::leaf_of, machine::specs::Choice::if_b))]
 fn leaf_of(number: u32, price: u32) -> Rec
     ensures { result ≡ leaf_of number price }
 {
@@ -67,6 +70,7 @@ pub fn inner_of(number: u32, rank: u32, left: u32, right: u32) -> Rec
 }
 
 // The rank of the new inner record.
+#[tactic(auto, unfolding(machine::specs::PutIn::inner_rank, machine::specs::Choice::if_b))]
 fn inner_rank(h: Rec) -> u32
     ensures { result ≡ inner_rank h }
 {
@@ -77,6 +81,7 @@ fn inner_rank(h: Rec) -> u32
 }
 
 // How the task goes on after its put-in.
+#[tactic(auto, unfolding(machine::specs::PutIn::put_turn, machine::specs::Choice::if_b))]
 fn put_turn(j: Job, p: Rec, h: Rec) -> Turn
     ensures { result ≡ put_turn j p h }
 {
@@ -99,6 +104,7 @@ fn five_writes(t: &mut [u32], n: u32, q: Path, left: bool, top: Rec, low: Rec, h
 }
 
 // The new inner record and its two leaves, the smaller number left.
+#[tactic(auto, unfolding(machine::specs::PutIn::put_writes, machine::specs::Choice::if_b))]
 fn put_writes(t: &mut [u32], n: u32, j: Job, q: Path, left: bool, h: Rec, s: Triple)
     requires { Sized t.old n × (s.first < n) × (s.second < n) × (s.third < n) × (q.here < n) × (q.parent < n) }
     ensures { t.new ≡ puts t.old (put_writes j q left h s.first s.second s.third) }
@@ -116,6 +122,7 @@ fn put_writes(t: &mut [u32], n: u32, j: Job, q: Path, left: bool, h: Rec, s: Tri
 }
 
 // Room, and the writes.
+#[tactic(auto, unfolding(machine::specs::Contract::acted, machine::specs::Contract::played, machine::specs::PutIn::put_room, machine::specs::Choice::if_b))]
 fn put_room(t: &mut [u32], n: u32, j: Job, q: Path, left: bool, p: Rec, h: Rec) -> Outcome
     requires { Sized t.old n × (q.here < n) × (q.parent < n) }
     ensures { acted t.new result ≡ played t.old (put_room (view n t.old) n j q left p h) }
@@ -132,6 +139,7 @@ fn put_room(t: &mut [u32], n: u32, j: Job, q: Path, left: bool, p: Rec, h: Rec) 
 }
 
 // The limit, looked at after the test.
+#[tactic(auto, unfolding(machine::specs::Contract::acted, machine::specs::Contract::played, machine::specs::PutIn::put_limit, machine::specs::Choice::if_b))]
 fn put_limit(t: &mut [u32], n: u32, m: u32, j: Job, q: Path, left: bool, p: Rec, h: Rec) -> Outcome
     requires { Sized t.old n × (q.here < n) × (q.parent < n) }
     ensures { acted t.new result ≡ played t.old (put_limit (view n t.old) n m j q left p h) }
@@ -143,6 +151,7 @@ fn put_limit(t: &mut [u32], n: u32, m: u32, j: Job, q: Path, left: bool, p: Rec,
 }
 
 // The commit of a put-in.
+#[tactic(auto, unfolding(machine::specs::Contract::acted, machine::specs::Contract::played, machine::specs::PutIn::put_commit, machine::specs::Choice::if_b))]
 fn put_commit(t: &mut [u32], n: u32, m: u32, j: Job, q: Path, a: Links, b: Links) -> Outcome
     requires { Sized t.old n }
     ensures { acted t.new result ≡ played t.old (put_commit (view n t.old) n m j q a b) }
@@ -159,6 +168,7 @@ fn put_commit(t: &mut [u32], n: u32, m: u32, j: Job, q: Path, a: Links, b: Links
 }
 
 // The reading of the parent.
+#[tactic(auto, unfolding(machine::specs::PutIn::read_put_parent, machine::specs::Choice::if_b))]
 fn read_put_parent(n: u32, j: Job, q: Path, p: Rec) -> Turn
     ensures { result ≡ read_put_parent n j q p }
 {
@@ -172,6 +182,7 @@ fn read_put_parent(n: u32, j: Job, q: Path, p: Rec) -> Turn
 }
 
 // The reading of the leaf.
+#[tactic(auto, unfolding(machine::specs::PutIn::read_put_leaf, machine::specs::Choice::if_b))]
 fn read_put_leaf(n: u32, j: Job, q: Path, a: Links, h: Rec) -> Turn
     ensures { result ≡ read_put_leaf n j q a h }
 {
@@ -184,6 +195,7 @@ fn read_put_leaf(n: u32, j: Job, q: Path, a: Links, h: Rec) -> Turn
 }
 
 // A step of a put-in that has walked.
+#[tactic(auto, unfolding(machine::specs::Contract::acted, machine::specs::Contract::played, machine::specs::PutIn::put_step, machine::specs::Choice::if_b))]
 pub fn put_step(t: &mut [u32], n: u32, m: u32, j: Job, q: Path, s: PutStage) -> Outcome
     requires { Sized t.old n }
     ensures { acted t.new result ≡ played t.old (put_step (view n t.old) n m j q s) }

@@ -41,12 +41,14 @@ fn is_unmarked(marks: &[u8], s: u32) -> bool
 }
 
 // Whether the record of slot s may be reached: a link may lead to it, it is in the tree, and no link led to it before.
+#[tactic(auto, unfolding(machine::specs::Record::linked, machine::specs::Record::in_tree, machine::specs::Choice::if_b))]
 fn may_reach(marks: &[u8], n: u32, s: u32, r: Rec) -> bool
     ensures { result ≡ (linked n s r && (in_tree r && eqb (get_or marks.now s 0) 0)) }
 {
     is_linked(n, s, r) & (in_tree(r) & is_unmarked(marks, s))
 }
 
+#[tactic(auto, unfolding(machine::specs::Reach::larger, machine::specs::Choice::if_b))]
 fn larger_of(a: u32, b: u32) -> u32
     ensures { result ≡ larger a b }
 {
@@ -57,6 +59,7 @@ fn larger_of(a: u32, b: u32) -> u32
 }
 
 // One record deeper, where there is a fare at all.
+#[tactic(auto, unfolding(machine::specs::Reach::deeper, machine::specs::Choice::if_b))]
 fn deeper_by(d: u32) -> u32
     requires { d ≤ 4096 }
     ensures { result ≡ deeper d }
@@ -67,6 +70,7 @@ fn deeper_by(d: u32) -> u32
     d + 1
 }
 
+#[tactic(auto, unfolding(crate::specs::Down::lost_below, machine::specs::Choice::if_b))]
 fn lost_below(left: u32) -> Below
     ensures { result ≡ lost_below left }
 {
@@ -80,6 +84,7 @@ fn lost_below(left: u32) -> Below
     }
 }
 
+#[tactic(auto, unfolding(crate::specs::Down::leaf_below, machine::specs::Choice::if_b))]
 fn leaf_below(p: Rec, r: Rec, left: u32) -> Below
     ensures { result ≡ leaf_below p r left }
 {
@@ -95,6 +100,7 @@ fn leaf_below(p: Rec, r: Rec, left: u32) -> Below
     }
 }
 
+#[tactic(auto, unfolding(crate::specs::Down::inner_below, machine::specs::Choice::if_b))]
 fn inner_below(p: Rec, r: Rec, a: Below, b: Below) -> Below
     requires { (a.level + b.level ≤ 4096) × (a.fares + b.fares ≤ 4096) × (a.depth ≤ 4096) × (b.depth ≤ 4096) }
     ensures { result ≡ inner_below p r a b }
@@ -152,6 +158,7 @@ pub fn reach_all(t: &[u32], marks: &mut [u8], n: u32) -> Below
 }
 
 // A slot without a mark is set to zero.
+#[tactic(auto, unfolding(crate::specs::Writing::swept, machine::specs::Choice::if_b))]
 fn sweep_slot(t: &mut [u32], n: u32, s: u32, mark: u8)
     requires { Sized t.old n × (s < n) }
     ensures { t.new ≡ swept t.old s mark }
@@ -174,6 +181,7 @@ fn sweep_slot(t: &mut [u32], n: u32, s: u32, mark: u8)
     );
 }
 
+#[tactic(auto, unfolding(machine::specs::Calls::sweep, machine::specs::Choice::if_b))]
 pub fn sweep_all(t: &mut [u32], marks: &[u8], n: u32)
     requires { Sized t.old n × (length marks.now ≡ n) }
     ensures { t.new ≡ puts t.old (sweep marks.now n 0) }
@@ -206,6 +214,7 @@ fn write_line(room: &mut [u32], at: usize, r: Rec) -> usize
 }
 
 // The fares below slot s, from the leftmost to the rightmost; each record visited is one slot less.
+#[tactic(auto, unfolding(crate::specs::Tree::tree_from, machine::specs::Choice::if_b))]
 pub fn write_fares(t: &[u32], room: &mut [u32], n: u32, s: u32, at: usize, left: u32) -> Written
     requires { Sized t.now n × RoomFor (tree_from left (view n t.now) s) left at room.old }
     ensures { Wrote (tree_from left (view n t.now) s) left at room.old result room.new }

@@ -21,6 +21,7 @@ fn clear(t: &mut [u32])
 }
 
 // The entry and the first sentinel leaf, in an empty table.
+#[tactic(auto, unfolding(machine::specs::Calls::empty_table, machine::specs::Choice::if_b))]
 fn lay_out(t: &mut [u32], n: u32)
     requires { Sized t.old n × (8 ≤ n) }
     ensures { t.new ≡ empty_table (length t.old) }
@@ -55,6 +56,7 @@ fn lay_out(t: &mut [u32], n: u32)
 }
 
 // The table and the state start anew.
+#[tactic(auto, unfolding(machine::specs::Contract::after, machine::specs::Calls::reset_of, machine::specs::Choice::if_b))]
 pub fn reset(t: &mut [u32], st: State) -> Out
     ensures { after t.new result ≡ reset_of t.old st }
 {

@@ -9,6 +9,7 @@ ghost use Rattle.room.specs.Found.{Found, TwoSlots, ThreeSlots};
 use fields::state_at;
 
 // The lowest free slot from a slot on; at or past the end there is none.
+#[tactic(auto, using(machine::proofs::Scan::scan_end, machine::proofs::Scan::scan_hit, machine::proofs::Scan::scan_miss))]
 fn free_from(t: &[u32], n: u32, from: u32) -> u32
     requires { Sized t.now n × (from ≤ 8195) }
     ensures { Found (view n t.now) n from result }
@@ -40,6 +41,7 @@ pub struct Triple {
     pub third: u32,
 }
 
+#[tactic(auto, unfolding(machine::specs::Table::slot1, machine::specs::Choice::if_b))]
 pub fn one_slot(t: &[u32], n: u32) -> u32
     requires { Sized t.now n }
     ensures { result ≡ slot1 (view n t.now) n }
@@ -47,6 +49,7 @@ pub fn one_slot(t: &[u32], n: u32) -> u32
     free_from(t, n, 1)
 }
 
+#[tactic(auto, unfolding(machine::specs::Table::slot1, machine::specs::Table::slot2))]
 pub fn two_slots(t: &[u32], n: u32) -> Pair
     requires { Sized t.now n }
     ensures { TwoSlots (view n t.now) n result }
@@ -59,6 +62,7 @@ pub fn two_slots(t: &[u32], n: u32) -> Pair
     }
 }
 
+#[tactic(auto, unfolding(machine::specs::Table::slot1, machine::specs::Table::slot2, machine::specs::Table::slot3))]
 pub fn three_slots(t: &[u32], n: u32) -> Triple
     requires { Sized t.now n }
     ensures { ThreeSlots (view n t.now) n result }
@@ -73,6 +77,7 @@ pub fn three_slots(t: &[u32], n: u32) -> Triple
     }
 }
 
+#[tactic(auto, unfolding(machine::specs::Choice::if_b))]
 fn one_if_free(state: u32) -> u32
     ensures { (result ≡ if_b (eqb state 0) 1 0) × (result ≤ 1) }
 {
@@ -83,6 +88,7 @@ fn one_if_free(state: u32) -> u32
 }
 
 // How many slots are in state 0.
+#[tactic(auto, unfolding(machine::specs::Table::count_free, machine::specs::Choice::if_b))]
 pub fn count_free(t: &[u32], n: u32) -> u32
     requires { Sized t.now n }
     ensures { result ≡ count_free (view n t.now) n }

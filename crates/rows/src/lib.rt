@@ -11,6 +11,7 @@ use putting::inner_of;
 use terms::{Around, LevelRow, Links, ParentRow, Path, Rec};
 
 // The rows that z and s decide, by their ranks.
+#[tactic(auto, unfolding(machine::specs::Rows::parent_row, machine::specs::Choice::if_b))]
 pub fn parent_row(z: u32, s: u32) -> ParentRow
     ensures { result ≡ parent_row z s }
 {
@@ -24,6 +25,7 @@ pub fn parent_row(z: u32, s: u32) -> ParentRow
 }
 
 // The rows that x, y and w decide, by their ranks.
+#[tactic(auto, unfolding(machine::specs::Rows::level_row, machine::specs::Choice::if_b))]
 pub fn level_row(x: u32, y: u32, w: u32) -> LevelRow
     ensures { result ≡ level_row x y w }
 {
@@ -66,6 +68,7 @@ pub fn is_double(row: LevelRow) -> bool
 }
 
 // An inner record that leads to `near` on x's side and to `far` on the other.
+#[tactic(auto, unfolding(machine::specs::Rows::sided, machine::specs::Choice::if_b))]
 fn sided_record(side: bool, number: u32, rank: u32, near: u32, far: u32) -> Rec
     ensures { result ≡ sided side number rank near far }
 {
@@ -76,6 +79,7 @@ fn sided_record(side: bool, number: u32, rank: u32, near: u32, far: u32) -> Rec
 }
 
 // The link on a side: true is left.
+#[tactic(auto, unfolding(machine::specs::Rows::link_at, machine::specs::Choice::if_b))]
 fn link_at(side: bool, a: Links) -> u32
     ensures { result ≡ link_at side a }
 {
@@ -86,6 +90,7 @@ fn link_at(side: bool, a: Links) -> u32
 }
 
 // Where the records around the level record stand, by the noted links of pz, z and x.
+#[tactic(auto, unfolding(machine::specs::Rows::around_of, machine::specs::Choice::if_b))]
 pub fn around_of(q: Path, a: Links, b: Links, c: Links) -> Around
     ensures { result ≡ around_of q a b c }
 {
@@ -125,6 +130,7 @@ fn two_records(t: &mut [u32], n: u32, q: Path, o: Around, top: Rec, below: Rec, 
 }
 
 // Rotate: x on top with rank rx, z below it with rank rz.
+#[tactic(auto, unfolding(machine::specs::Rows::rotate_writes, machine::specs::Choice::if_b))]
 pub fn rotate_writes(
     t: &mut [u32],
     n: u32,
@@ -184,6 +190,7 @@ fn seven_writes(
 }
 
 // Double rotation: y on top, x and z below it on their sides.
+#[tactic(auto, unfolding(machine::specs::Rows::double_writes, machine::specs::Choice::if_b))]
 pub fn double_writes(
     t: &mut [u32],
     n: u32,

@@ -17,6 +17,7 @@ use terms::{
 use walk::{busy_in, calm_turn, read_record};
 
 // The readings.
+#[tactic(auto, unfolding(machine::specs::Settling::read_grand, machine::specs::Choice::if_b))]
 pub fn read_grand(n: u32, j: Job, q: Path, pz: Rec) -> Turn
     ensures { result ≡ read_grand n j q pz }
 {
@@ -29,6 +30,7 @@ pub fn read_grand(n: u32, j: Job, q: Path, pz: Rec) -> Turn
     )
 }
 
+#[tactic(auto, unfolding(machine::specs::Settling::read_parent, machine::specs::Choice::if_b))]
 pub fn read_parent(n: u32, j: Job, q: Path, a: Links, z: Rec) -> Turn
     ensures { result ≡ read_parent n j q a z }
 {
@@ -42,6 +44,7 @@ pub fn read_parent(n: u32, j: Job, q: Path, a: Links, z: Rec) -> Turn
 }
 
 // x or y, which the choice has found well formed.
+#[tactic(auto, unfolding(machine::specs::Settling::read_on, machine::specs::Choice::if_b))]
 pub fn read_on(j: Job, q: Path, f: SettleStage, r: Rec) -> Turn
     ensures { result ≡ read_on j q f r }
 {
@@ -49,6 +52,7 @@ pub fn read_on(j: Job, q: Path, f: SettleStage, r: Rec) -> Turn
 }
 
 // The grounds of 17 before the test, by how many records were read.
+#[tactic(auto, unfolding(machine::specs::Settling::grounds_two, machine::specs::Choice::if_b))]
 pub fn grounds_two(n: u32, q: Path, a: Links, b: Links, pz: Rec, z: Rec, x: Rec) -> bool
     ensures { result ≡ grounds_two n q a b pz z x }
 {
@@ -56,12 +60,14 @@ pub fn grounds_two(n: u32, q: Path, a: Links, b: Links, pz: Rec, z: Rec, x: Rec)
     well_formed(n, q.grand, pz) & ((q.grand != q.parent) & led)
 }
 
+#[tactic(auto, unfolding(machine::specs::Settling::grounds_three, machine::specs::Choice::if_b))]
 pub fn grounds_three(n: u32, q: Path, a: Links, b: Links, pz: Rec, z: Rec, x: Rec) -> bool
     ensures { result ≡ grounds_three n q a b pz z x }
 {
     grounds_two(n, q, a, b, pz, z, x) & ((q.grand != q.here) & (q.parent != q.here))
 }
 
+#[tactic(auto, unfolding(machine::specs::Settling::grounds_four, machine::specs::Choice::if_b))]
 pub fn grounds_four(
     n: u32,
     q: Path,
@@ -80,18 +86,21 @@ pub fn grounds_four(
 }
 
 // The test, likewise.
+#[tactic(auto, unfolding(machine::specs::Settling::test_two, machine::specs::Choice::if_b))]
 pub fn test_two(a: Links, b: Links, pz: Rec, z: Rec) -> bool
     ensures { result ≡ test_two a b pz z }
 {
     is_still(pz, a) & is_still(z, b)
 }
 
+#[tactic(auto, unfolding(machine::specs::Settling::test_three, machine::specs::Choice::if_b))]
 pub fn test_three(a: Links, b: Links, c: Links, pz: Rec, z: Rec, x: Rec) -> bool
     ensures { result ≡ test_three a b c pz z x }
 {
     test_two(a, b, pz, z) & is_still(x, c)
 }
 
+#[tactic(auto, unfolding(machine::specs::Settling::test_four, machine::specs::Choice::if_b))]
 pub fn test_four(a: Links, b: Links, c: Links, d: Links, pz: Rec, z: Rec, x: Rec, y: Rec) -> bool
     ensures { result ≡ test_four a b c d pz z x y }
 {
@@ -106,6 +115,7 @@ pub fn settled_on(j: Job) -> Outcome
 }
 
 // Promote.
+#[tactic(auto, unfolding(machine::specs::Contract::acted, machine::specs::Contract::played, machine::specs::Settling::promote_do, machine::specs::Choice::if_b))]
 fn promote_do(t: &mut [u32], n: u32, j: Job, q: Path, high: bool, b: Links, z: Rec) -> Outcome
     requires { Sized t.old n × (q.parent < n) × (q.grand < n) }
     ensures { acted t.new result ≡ played t.old (promote_do (view n t.old) n j q high b z) }
@@ -122,6 +132,7 @@ fn promote_do(t: &mut [u32], n: u32, j: Job, q: Path, high: bool, b: Links, z: R
 }
 
 // Rotate, with the new ranks of x and z.
+#[tactic(auto, unfolding(machine::specs::Contract::acted, machine::specs::Contract::played, machine::specs::Settling::rotate_do, machine::specs::Choice::if_b))]
 fn rotate_do(
     t: &mut [u32],
     n: u32,
@@ -144,6 +155,7 @@ fn rotate_do(
     settled_on(j)
 }
 
+#[tactic(auto, unfolding(machine::specs::Contract::acted, machine::specs::Contract::played, machine::specs::Settling::rotate_two_do, machine::specs::Choice::if_b))]
 fn rotate_two_do(t: &mut [u32], n: u32, j: Job, q: Path, o: Around, z: Rec, x: Rec) -> Outcome
     requires { Sized t.old n × (q.parent < n) × (q.here < n) × (q.grand < n) }
     ensures { acted t.new result ≡ played t.old (rotate_two_do (view n t.old) n j q o z x) }
@@ -155,6 +167,7 @@ fn rotate_two_do(t: &mut [u32], n: u32, j: Job, q: Path, o: Around, z: Rec, x: R
 }
 
 // Double rotation.
+#[tactic(auto, unfolding(machine::specs::Contract::acted, machine::specs::Contract::played, machine::specs::Settling::double_do, machine::specs::Choice::if_b))]
 fn double_do(
     t: &mut [u32],
     n: u32,
@@ -178,6 +191,7 @@ fn double_do(
 }
 
 // The change by its row.
+#[tactic(auto, unfolding(machine::specs::Contract::acted, machine::specs::Contract::played, machine::specs::Settling::promote_by, machine::specs::Choice::if_b))]
 pub fn promote_by(
     t: &mut [u32],
     n: u32,
@@ -198,6 +212,7 @@ pub fn promote_by(
     }
 }
 
+#[tactic(auto, unfolding(machine::specs::Contract::acted, machine::specs::Contract::played, machine::specs::Settling::rotate_by, machine::specs::Choice::if_b))]
 pub fn rotate_by(
     t: &mut [u32],
     n: u32,
@@ -219,6 +234,7 @@ pub fn rotate_by(
     }
 }
 
+#[tactic(auto, unfolding(machine::specs::Contract::acted, machine::specs::Contract::played, machine::specs::Settling::double_by, machine::specs::Choice::if_b))]
 pub fn double_by(
     t: &mut [u32],
     n: u32,

@@ -14,6 +14,7 @@ use terms::{Answer, Job, Out, Outcome, Phase, State, Work};
 use walk::{calm_turn, walk_from, walk_on};
 
 // The step of a task by its phase; m put-ins are committed.
+#[tactic(auto, unfolding(machine::specs::Contract::acted, machine::specs::Contract::played, machine::specs::Step::phase_step, machine::specs::Choice::if_b))]
 pub fn phase_step(t: &mut [u32], n: u32, m: u32, j: Job, f: Phase) -> Outcome
     requires { Sized t.old n }
     ensures { acted t.new result ≡ played t.old (phase_step (view n t.old) n m j f) }
@@ -28,6 +29,7 @@ pub fn phase_step(t: &mut [u32], n: u32, m: u32, j: Job, f: Phase) -> Outcome
 }
 
 // A step of task i, which does w.
+#[tactic(auto, unfolding(machine::specs::Contract::after, machine::specs::Step::step_work, machine::specs::Choice::if_b))]
 fn step_work(t: &mut [u32], n: u32, st: State, i: usize, w: Work) -> Out
     requires { Sized t.old n × (n ≡ slots t.old) × (i < 8) }
     ensures { after t.new result ≡ step_work t.old st i w }
@@ -52,6 +54,7 @@ fn step_work(t: &mut [u32], n: u32, st: State, i: usize, w: Work) -> Out
 }
 
 // One step of task i.
+#[tactic(auto, unfolding(machine::specs::Contract::after, machine::specs::Step::step_of, machine::specs::Choice::if_b))]
 pub fn step(t: &mut [u32], st: State, i: u32) -> Out
     ensures { after t.new result ≡ step_of t.old st i }
 {

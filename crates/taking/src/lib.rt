@@ -15,6 +15,7 @@ use terms::{Answer, Goal, Job, Links, Operation, Outcome, Path, Phase, Rec, Take
 use walk::{busy_in, calm_turn, read_record};
 
 // No two of the records read are one and the same.
+#[tactic(auto, unfolding(machine::specs::TakeOut::take_apart, machine::specs::Choice::if_b))]
 fn take_apart(q: Path, b: Links) -> bool
     ensures { result ≡ take_apart q b }
 {
@@ -23,6 +24,7 @@ fn take_apart(q: Path, b: Links) -> bool
 }
 
 // Whether a record is a leaf of the task's number.
+#[tactic(auto, unfolding(machine::specs::TakeOut::take_leaf, machine::specs::Choice::if_b))]
 fn take_leaf(j: Job, h: Rec) -> bool
     ensures { result ≡ take_leaf j h }
 {
@@ -30,6 +32,7 @@ fn take_leaf(j: Job, h: Rec) -> bool
 }
 
 // The child that the task stands on, of the two.
+#[tactic(auto, unfolding(machine::specs::Choice::if_b))]
 fn child_here(q: Path, b: Links, l: Rec, r: Rec) -> Rec
     ensures { result ≡ if_b (eqb b.left q.here) l r }
 {
@@ -40,6 +43,7 @@ fn child_here(q: Path, b: Links, l: Rec, r: Rec) -> Rec
 }
 
 // The grounds of 17 that the commit looks at before its test.
+#[tactic(auto, unfolding(machine::specs::TakeOut::take_grounds, machine::specs::Choice::if_b))]
 fn take_grounds(n: u32, j: Job, q: Path, a: Links, b: Links, g: Rec, p: Rec, l: Rec, r: Rec) -> bool
     ensures { result ≡ take_grounds n j q a b g p l r }
 {
@@ -50,6 +54,7 @@ fn take_grounds(n: u32, j: Job, q: Path, a: Links, b: Links, g: Rec, p: Rec, l: 
     well_formed(n, q.grand, g) & (well_formed(n, q.parent, p) & children)
 }
 
+#[tactic(auto, unfolding(machine::specs::TakeOut::take_test, machine::specs::Choice::if_b))]
 fn take_test(a: Links, b: Links, c: Links, d: Links, g: Rec, p: Rec, l: Rec, r: Rec) -> bool
     ensures { result ≡ take_test a b c d g p l r }
 {
@@ -69,6 +74,7 @@ fn take_writes(t: &mut [u32], n: u32, q: Path, left: bool, s: Rec, sibling: u32,
 }
 
 // Room, and the writes.
+#[tactic(auto, unfolding(machine::specs::Contract::acted, machine::specs::Contract::played, machine::specs::TakeOut::take_room, machine::specs::Choice::if_b))]
 fn take_room(t: &mut [u32], n: u32, q: Path, left: bool, s: Rec, sibling: u32) -> Outcome
     requires { Sized t.old n × (sibling < n) × (q.here < n) × (q.parent < n) × (q.grand < n) }
     ensures { acted t.new result ≡ played t.old (take_room (view n t.old) n q left s sibling) }
@@ -85,6 +91,7 @@ fn take_room(t: &mut [u32], n: u32, q: Path, left: bool, s: Rec, sibling: u32) -
 }
 
 // The commit of a take-out.
+#[tactic(auto, unfolding(machine::specs::Contract::acted, machine::specs::Contract::played, machine::specs::TakeOut::take_commit, machine::specs::Choice::if_b))]
 fn take_commit(
     t: &mut [u32],
     n: u32,
@@ -113,6 +120,7 @@ fn take_commit(
 }
 
 // The readings.
+#[tactic(auto, unfolding(machine::specs::TakeOut::read_take_grand, machine::specs::Choice::if_b))]
 fn read_take_grand(n: u32, j: Job, q: Path, g: Rec) -> Turn
     ensures { result ≡ read_take_grand n j q g }
 {
@@ -125,6 +133,7 @@ fn read_take_grand(n: u32, j: Job, q: Path, g: Rec) -> Turn
     )
 }
 
+#[tactic(auto, unfolding(machine::specs::TakeOut::read_take_parent, machine::specs::Choice::if_b))]
 fn read_take_parent(n: u32, j: Job, q: Path, a: Links, p: Rec) -> Turn
     ensures { result ≡ read_take_parent n j q a p }
 {
@@ -137,6 +146,7 @@ fn read_take_parent(n: u32, j: Job, q: Path, a: Links, p: Rec) -> Turn
     )
 }
 
+#[tactic(auto, unfolding(machine::specs::TakeOut::read_take_left, machine::specs::Choice::if_b))]
 fn read_take_left(n: u32, j: Job, q: Path, a: Links, b: Links, l: Rec) -> Turn
     ensures { result ≡ read_take_left n j q a b l }
 {
@@ -148,6 +158,7 @@ fn read_take_left(n: u32, j: Job, q: Path, a: Links, b: Links, l: Rec) -> Turn
     )
 }
 
+#[tactic(auto, unfolding(machine::specs::TakeOut::read_take_right, machine::specs::Choice::if_b))]
 fn read_take_right(n: u32, j: Job, q: Path, a: Links, b: Links, c: Links, r: Rec) -> Turn
     ensures { result ≡ read_take_right n j q a b c r }
 {
@@ -160,6 +171,7 @@ fn read_take_right(n: u32, j: Job, q: Path, a: Links, b: Links, c: Links, r: Rec
 }
 
 // A step of a take-out that has walked.
+#[tactic(auto, unfolding(machine::specs::Contract::acted, machine::specs::Contract::played, machine::specs::TakeOut::take_step, machine::specs::Choice::if_b))]
 pub fn take_step(t: &mut [u32], n: u32, j: Job, q: Path, s: TakeStage) -> Outcome
     requires { Sized t.old n }
     ensures { acted t.new result ≡ played t.old (take_step (view n t.old) n j q s) }

@@ -54,6 +54,7 @@ pub struct Gone {
 }
 
 // A leaf is arrived at.
+#[tactic(auto, unfolding(crate::specs::Arrived::turn_at, machine::specs::Walk::at_leaf, machine::specs::Choice::if_b))]
 fn at_leaf(o: Operation, j: Job, q: Path, r: Rec) -> Arrival
     ensures { turn_at (Serve o) j q result ≡ at_leaf o j q r }
 {
@@ -81,6 +82,7 @@ fn at_leaf(o: Operation, j: Job, q: Path, r: Rec) -> Arrival
 }
 
 // A record h is arrived at, for an operation.
+#[tactic(auto, unfolding(crate::specs::Arrived::turn_at, machine::specs::Walk::serve_arrival, machine::specs::Choice::if_b))]
 fn serve_arrival(o: Operation, j: Job, q: Path, h: Rec) -> Arrival
     ensures { turn_at (Serve o) j q result ≡ serve_arrival o j q h }
 {
@@ -91,6 +93,7 @@ fn serve_arrival(o: Operation, j: Job, q: Path, h: Rec) -> Arrival
 }
 
 // A record h is arrived at below p, on a walk that settles.
+#[tactic(auto, unfolding(crate::specs::Arrived::turn_at, machine::specs::Walk::settle_arrival, machine::specs::Choice::if_b))]
 fn settle_arrival(j: Job, q: Path, p: Rec, h: Rec) -> Arrival
     ensures { turn_at Settle j q result ≡ settle_arrival j q p h }
 {
@@ -107,6 +110,7 @@ fn settle_arrival(j: Job, q: Path, p: Rec, h: Rec) -> Arrival
 }
 
 // The arrival rule.
+#[tactic(auto, unfolding(crate::specs::Arrived::turn_at, machine::specs::Walk::arrival, machine::specs::Choice::if_b))]
 fn arrive(g: Goal, j: Job, q: Path, p: Rec, h: Rec) -> Arrival
     ensures { turn_at g j q result ≡ arrival g j q p h }
 {
@@ -117,6 +121,7 @@ fn arrive(g: Goal, j: Job, q: Path, p: Rec, h: Rec) -> Arrival
 }
 
 // The record arrived at is read; p is the one that the walk left.
+#[tactic(auto, unfolding(crate::specs::Arrived::turn_at, machine::specs::Walk::walk_to, machine::specs::Choice::if_b))]
 fn walk_to(t: &[u32], n: u32, g: Goal, j: Job, q: Path, p: Rec) -> Arrival
     requires { Sized t.now n × (p ≡ view n t.now q.parent) }
     ensures { turn_at g j q result ≡ walk_to (view n t.now) n g j q }
@@ -129,6 +134,7 @@ fn walk_to(t: &[u32], n: u32, g: Goal, j: Job, q: Path, p: Rec) -> Arrival
 }
 
 // One step of a walk: it leaves slot s, whose parent is the slot grand.
+#[tactic(auto, unfolding(crate::specs::Arrived::turn_at, machine::specs::Walk::walk_from, crate::specs::Arrived::left_to, machine::specs::Choice::if_b))]
 pub fn walk_out(t: &[u32], n: u32, g: Goal, j: Job, grand: u32, s: u32) -> Gone
     requires { Sized t.now n }
     ensures { (turn_at g j (record { grand = grand; parent = s; here = result.to }) result.at ≡ walk_from (view n t.now) n g j grand s) × (result.to ≡ left_to (view n t.now) n j.number s) }
@@ -153,6 +159,7 @@ pub fn walk_out(t: &[u32], n: u32, g: Goal, j: Job, grand: u32, s: u32) -> Gone
 }
 
 // The turn of a task that walked to q.
+#[tactic(auto, unfolding(crate::specs::Arrived::turn_at, machine::specs::Choice::if_b))]
 fn turn_at(g: Goal, j: Job, q: Path, a: Arrival) -> Turn
     ensures { result ≡ turn_at g j q a }
 {
@@ -167,6 +174,7 @@ fn turn_at(g: Goal, j: Job, q: Path, a: Arrival) -> Turn
 }
 
 // The same step as a turn of its task.
+#[tactic(auto, unfolding(machine::specs::Walk::walk_from, machine::specs::Choice::if_b))]
 pub fn walk_from(t: &[u32], n: u32, g: Goal, j: Job, grand: u32, s: u32) -> Turn
     requires { Sized t.now n }
     ensures { result ≡ walk_from (view n t.now) n g j grand s }
@@ -182,6 +190,7 @@ pub fn walk_from(t: &[u32], n: u32, g: Goal, j: Job, grand: u32, s: u32) -> Turn
 }
 
 // A walk that goes on from where the task stands.
+#[tactic(auto, unfolding(machine::specs::Walk::walk_on, machine::specs::Choice::if_b))]
 pub fn walk_on(t: &[u32], n: u32, g: Goal, j: Job, q: Path) -> Turn
     requires { Sized t.now n }
     ensures { result ≡ walk_on (view n t.now) n g j q }
@@ -193,6 +202,7 @@ pub fn walk_on(t: &[u32], n: u32, g: Goal, j: Job, q: Path) -> Turn
 }
 
 // A reading: its links are noted, or the walk starts again.
+#[tactic(auto, unfolding(machine::specs::Commit::reading, machine::specs::Choice::if_b))]
 pub fn read_record(k: Task, formed: bool, good: bool, r: Rec) -> Turn
     ensures { result ≡ reading k formed good r }
 {

@@ -15,6 +15,7 @@ use room::count_free;
 use state::{count_busy, count_settling, is_sound};
 use terms::{Answer, Figures, Out, Report, State};
 
+#[tactic(auto, unfolding(machine::specs::Contract::after, machine::specs::Calls::tidy_reached, machine::specs::Reach::reach, machine::specs::Choice::if_b))]
 fn tidy_reached(t: &mut [u32], st: State, marks: &mut [u8], n: u32) -> Out
     requires { Sized t.old n × (marks.old ≡ replicate n 0) }
     ensures { after t.new result ≡ tidy_reached t.old st (reach n (view n t.old)) }
@@ -34,6 +35,7 @@ fn tidy_reached(t: &mut [u32], st: State, marks: &mut [u8], n: u32) -> Out
 }
 
 // Every slot that the entry does not reach is set to zero.
+#[tactic(auto, unfolding(machine::specs::Contract::after, machine::specs::Calls::tidy_of, machine::specs::Choice::if_b))]
 pub fn tidy(t: &mut [u32], st: State) -> Out
     ensures { after t.new result ≡ tidy_of t.old st }
 {
@@ -78,6 +80,7 @@ fn no_report(a: Answer) -> Report
     }
 }
 
+#[tactic(auto, unfolding(crate::specs::Whole::reported, machine::specs::Choice::if_b))]
 fn report(t: &[u32], n: u32, st: State, b: Below) -> Report
     requires { Sized t.now n × (sound st ≡ true) }
     ensures { result ≡ reported t.now n st b }
@@ -99,6 +102,7 @@ fn report(t: &[u32], n: u32, st: State, b: Below) -> Report
     }
 }
 
+#[tactic(auto, unfolding(machine::specs::Calls::figures_reached, machine::specs::Reach::reach, machine::specs::Choice::if_b))]
 fn figures_reached(t: &[u32], st: State, marks: &mut [u8], n: u32) -> Report
     requires { Sized t.now n × (marks.old ≡ replicate n 0) × (sound st ≡ true) }
     ensures { result ≡ figures_reached t.now st (reach n (view n t.now)) }
@@ -111,6 +115,7 @@ fn figures_reached(t: &[u32], st: State, marks: &mut [u8], n: u32) -> Report
 }
 
 // Height, level records, c, m, fares, free slots and the allowed rank.
+#[tactic(auto, unfolding(machine::specs::Calls::figures_of, machine::specs::Choice::if_b))]
 pub fn figures(t: &[u32], st: State) -> Report
     ensures { result ≡ figures_of t.now st }
 {
@@ -126,6 +131,7 @@ pub fn figures(t: &[u32], st: State) -> Report
     figures_reached(t, st, &mut marks[..n as usize], n)
 }
 
+#[tactic(auto, unfolding(crate::specs::Whole::listed, machine::specs::Calls::list_reached, machine::specs::Reach::reach, machine::specs::Choice::if_b))]
 fn list_reached(t: &[u32], room: &mut [u32], marks: &mut [u8], n: u32) -> Answer
     requires { Sized t.now n × (marks.old ≡ replicate n 0) }
     ensures { listed result room.new ≡ list_reached room.old (reach n (view n t.now)) }
@@ -143,6 +149,7 @@ fn list_reached(t: &[u32], room: &mut [u32], marks: &mut [u8], n: u32) -> Answer
 }
 
 // Number and price of each fare, from the leftmost to the rightmost, into the room lent.
+#[tactic(auto, unfolding(crate::specs::Whole::listed, machine::specs::Calls::list_of, machine::specs::Choice::if_b))]
 pub fn list(t: &[u32], st: State, room: &mut [u32]) -> Answer
     ensures { listed result room.new ≡ list_of t.now st room.old }
 {
