@@ -1,14 +1,12 @@
 -- The rides of second/rides/own.txt; made by second/to-proofs.
-use Prim.Native.Nat.{ℕ}
 use mathlib.Core.List.{List, [], ◌∷◌}
 use Rattle.terms.specs.declared.Operation.TheVariants.{LookUp, PutIn, TakeOut}
 use Rattle.terms.specs.declared.Goal.TheVariants.{Serve, Settle}
 use Rattle.terms.specs.declared.PutStage.TheVariants.{PutParent, PutLeaf, PutCommit}
-use Rattle.terms.specs.declared.TakeStage.TheVariants.{TakeGrand, TakeParent, TakeLeft, TakeRight, TakeCommit}
+use Rattle.terms.specs.declared.TakeStage.TheVariants.{TakeGrand, TakeLeft, TakeRight, TakeCommit}
 use Rattle.terms.specs.declared.SettleStage.TheVariants.{SettleGrand, SettleParent, SettleChoose, SettleRotate, SettleDouble}
 use Rattle.terms.specs.declared.Phase.TheVariants.{Start, Walk, PuttingIn, TakingOut, Settling}
-use Rattle.terms.specs.Task.{idle_task}
-use Rattle.machine.proofs.Ride.{Ride, anew, onward, beside, begin, step, abandon, tidy, figures, list, field, m-is, u-is, length-is, task_is, call, damage, same, left, rec, links, path, busy}
+use Rattle.machine.proofs.Ride.{Ride, anew, onward, beside, begin, step, abandon, tidy, figures, list, field, m_is, u_is, length_is, task_is, call, damage, same, left, rec, links, path, busy}
 
 unfoldable pub own_rides : List Ride
 own_rides =
@@ -586,7 +584,7 @@ own_rides =
                 ∷ [];
           });
     }
-    -- 16: a settling walk that ends at a taken_off leaf gives 3
+    -- 16: a settling walk that ends at a taken-off leaf gives 3
     ∷ record {
       start = beside;
       lines =
@@ -1343,7 +1341,7 @@ own_rides =
                 ∷ [];
           });
     }
-    -- 36: a look up standing on a taken_off record ends at a taken_off leaf, found with its price
+    -- 36: a look up standing on a taken-off record ends at a taken-off leaf, found with its price
     ∷ record {
       start = beside;
       lines =
@@ -1449,7 +1447,7 @@ own_rides =
                 ∷ [];
           });
     }
-    -- 39: a look up and a take-out of another number end with 2 at a taken_off leaf
+    -- 39: a look up and a take-out of another number end with 2 at a taken-off leaf
     ∷ record {
       start = beside;
       lines =
@@ -2211,7 +2209,7 @@ own_rides =
     ∷ record {
       start = beside;
       lines =
-          damage (m-is 1000000)
+          damage (m_is 1000000)
           ∷ call (begin 0 PutIn 30 130) 0 0
           ∷ call (step 0 5) 0 0
           ∷ call (step 0 1) 16 0
@@ -2240,7 +2238,7 @@ own_rides =
     ∷ record {
       start = beside;
       lines =
-          damage (m-is 999999)
+          damage (m_is 999999)
           ∷ call (begin 0 PutIn 30 130) 0 0
           ∷ call (step 0 6) 15 0
           ∷ [];
@@ -2268,8 +2266,8 @@ own_rides =
     ∷ record {
       start = beside;
       lines =
-          damage (length-is 96)
-          ∷ damage (m-is 1000000)
+          damage (length_is 96)
+          ∷ damage (m_is 1000000)
           ∷ call (begin 0 PutIn 30 130) 0 0
           ∷ call (step 0 6) 16 0
           ∷ [];
@@ -2297,8 +2295,8 @@ own_rides =
     ∷ record {
       start = beside;
       lines =
-          damage (length-is 96)
-          ∷ damage (m-is 999999)
+          damage (length_is 96)
+          ∷ damage (m_is 999999)
           ∷ call (begin 0 PutIn 5 105) 0 0
           ∷ call (step 0 6) 0 0
           ∷ [];
@@ -2391,7 +2389,7 @@ own_rides =
     ∷ record {
       start = anew 8;
       lines =
-          damage (length-is 47)
+          damage (length_is 47)
           ∷ call (begin 0 PutIn 10 110) 18 0
           ∷ [];
       after = same;
@@ -2401,7 +2399,7 @@ own_rides =
       start = beside;
       lines =
           call (begin 0 LookUp 10 0) 0 0
-          ∷ damage (length-is 47)
+          ∷ damage (length_is 47)
           ∷ call (step 0 1) 18 0
           ∷ [];
       after = same;
@@ -2411,7 +2409,7 @@ own_rides =
       start = beside;
       lines =
           call (begin 0 LookUp 10 0) 0 0
-          ∷ damage (length-is 47)
+          ∷ damage (length_is 47)
           ∷ call (abandon 0) 18 0
           ∷ [];
       after = same;
@@ -2420,7 +2418,7 @@ own_rides =
     ∷ record {
       start = beside;
       lines =
-          damage (length-is 47)
+          damage (length_is 47)
           ∷ call tidy 18 0
           ∷ [];
       after = same;
@@ -2429,7 +2427,7 @@ own_rides =
     ∷ record {
       start = beside;
       lines =
-          damage (length-is 47)
+          damage (length_is 47)
           ∷ call figures 18 0
           ∷ [];
       after = same;
@@ -2438,7 +2436,7 @@ own_rides =
     ∷ record {
       start = beside;
       lines =
-          damage (length-is 47)
+          damage (length_is 47)
           ∷ call (list 4) 18 0
           ∷ [];
       after = same;
@@ -2447,7 +2445,7 @@ own_rides =
     ∷ record {
       start = beside;
       lines =
-          damage (length-is 42)
+          damage (length_is 42)
           ∷ call figures 18 0
           ∷ [];
       after = same;
@@ -2456,7 +2454,7 @@ own_rides =
     ∷ record {
       start = beside;
       lines =
-          damage (length-is 49)
+          damage (length_is 49)
           ∷ call figures 18 0
           ∷ [];
       after = same;
@@ -2465,7 +2463,7 @@ own_rides =
     ∷ record {
       start = beside;
       lines =
-          damage (length-is 0)
+          damage (length_is 0)
           ∷ call figures 18 0
           ∷ [];
       after = same;
@@ -2474,7 +2472,7 @@ own_rides =
     ∷ record {
       start = beside;
       lines =
-          damage (length-is 54)
+          damage (length_is 54)
           ∷ call figures 0 0
           ∷ [];
       after = same;
@@ -2622,7 +2620,7 @@ own_rides =
     ∷ record {
       start = onward;
       lines =
-          damage (length-is 66)
+          damage (length_is 66)
           ∷ call (step 0 1) 6 0
           ∷ [];
       after =
@@ -2652,7 +2650,7 @@ own_rides =
     ∷ record {
       start = beside;
       lines =
-          damage (length-is 72)
+          damage (length_is 72)
           ∷ call (step 0 1) 0 0
           ∷ [];
       after =
@@ -2683,7 +2681,7 @@ own_rides =
     ∷ record {
       start = beside;
       lines =
-          damage (length-is 66)
+          damage (length_is 66)
           ∷ damage (field 2 0 2)
           ∷ call (step 0 1) 0 0
           ∷ damage (field 0 2 1)
@@ -2736,7 +2734,7 @@ own_rides =
     ∷ record {
       start = onward;
       lines =
-          damage (length-is 102)
+          damage (length_is 102)
           ∷ call (step 0 1) 6 0
           ∷ [];
       after =
@@ -2771,7 +2769,7 @@ own_rides =
     ∷ record {
       start = beside;
       lines =
-          damage (length-is 108)
+          damage (length_is 108)
           ∷ call (step 0 1) 0 0
           ∷ [];
       after =
@@ -2849,7 +2847,7 @@ own_rides =
     ∷ record {
       start = onward;
       lines =
-          damage (length-is 108)
+          damage (length_is 108)
           ∷ call (step 0 1) 6 0
           ∷ [];
       after =
@@ -2884,7 +2882,7 @@ own_rides =
     ∷ record {
       start = beside;
       lines =
-          damage (length-is 114)
+          damage (length_is 114)
           ∷ call (step 0 1) 0 0
           ∷ [];
       after =
@@ -2953,7 +2951,7 @@ own_rides =
     ∷ record {
       start = onward;
       lines =
-          damage (length-is 47)
+          damage (length_is 47)
           ∷ call (begin 8 LookUp 10 0) 18 0
           ∷ [];
       after = same;
@@ -2962,7 +2960,7 @@ own_rides =
     ∷ record {
       start = beside;
       lines =
-          damage (length-is 47)
+          damage (length_is 47)
           ∷ call (step 8 1) 18 0
           ∷ [];
       after = same;
@@ -2971,7 +2969,7 @@ own_rides =
     ∷ record {
       start = beside;
       lines =
-          damage (length-is 47)
+          damage (length_is 47)
           ∷ call (abandon 8) 18 0
           ∷ [];
       after = same;
@@ -2980,7 +2978,7 @@ own_rides =
     ∷ record {
       start = beside;
       lines =
-          damage (length-is 47)
+          damage (length_is 47)
           ∷ call (begin 0 LookUp 1000000 0) 18 0
           ∷ [];
       after = same;
@@ -2989,7 +2987,7 @@ own_rides =
     ∷ record {
       start = beside;
       lines =
-          damage (length-is 47)
+          damage (length_is 47)
           ∷ call (step 1 1) 18 0
           ∷ [];
       after = same;
@@ -2998,7 +2996,7 @@ own_rides =
     ∷ record {
       start = beside;
       lines =
-          damage (length-is 47)
+          damage (length_is 47)
           ∷ call (abandon 1) 18 0
           ∷ [];
       after = same;
@@ -3007,7 +3005,7 @@ own_rides =
     ∷ record {
       start = beside;
       lines =
-          damage (length-is 47)
+          damage (length_is 47)
           ∷ call tidy 18 0
           ∷ [];
       after = same;
@@ -3016,8 +3014,8 @@ own_rides =
     ∷ record {
       start = beside;
       lines =
-          damage (length-is 47)
-          ∷ damage (m-is 1000001)
+          damage (length_is 47)
+          ∷ damage (m_is 1000001)
           ∷ call figures 18 0
           ∷ [];
       after = same;
@@ -3026,8 +3024,8 @@ own_rides =
     ∷ record {
       start = beside;
       lines =
-          damage (length-is 47)
-          ∷ damage (m-is 1000001)
+          damage (length_is 47)
+          ∷ damage (m_is 1000001)
           ∷ call (list 9) 18 0
           ∷ [];
       after = same;
@@ -3044,7 +3042,7 @@ own_rides =
     ∷ record {
       start = beside;
       lines =
-          damage (m-is 1000001)
+          damage (m_is 1000001)
           ∷ call (step 8 1) 10 0
           ∷ [];
       after = same;
@@ -3053,7 +3051,7 @@ own_rides =
     ∷ record {
       start = beside;
       lines =
-          damage (m-is 1000001)
+          damage (m_is 1000001)
           ∷ call (abandon 8) 10 0
           ∷ [];
       after = same;
@@ -3078,7 +3076,7 @@ own_rides =
     ∷ record {
       start = beside;
       lines =
-          damage (m-is 1000001)
+          damage (m_is 1000001)
           ∷ call (begin 1 PutIn 1000000 5) 11 0
           ∷ [];
       after = same;
@@ -3087,7 +3085,7 @@ own_rides =
     ∷ record {
       start = beside;
       lines =
-          damage (m-is 1000001)
+          damage (m_is 1000001)
           ∷ call (begin 0 LookUp 10 0) 12 0
           ∷ [];
       after = same;
@@ -3096,7 +3094,7 @@ own_rides =
     ∷ record {
       start = beside;
       lines =
-          damage (m-is 1000001)
+          damage (m_is 1000001)
           ∷ call (step 1 1) 13 0
           ∷ [];
       after = same;
@@ -3105,7 +3103,7 @@ own_rides =
     ∷ record {
       start = beside;
       lines =
-          damage (m-is 1000001)
+          damage (m_is 1000001)
           ∷ call (abandon 1) 13 0
           ∷ [];
       after = same;
@@ -3114,7 +3112,7 @@ own_rides =
     ∷ record {
       start = beside;
       lines =
-          damage (m-is 1000001)
+          damage (m_is 1000001)
           ∷ call tidy 14 0
           ∷ [];
       after = same;
@@ -3132,7 +3130,7 @@ own_rides =
     ∷ record {
       start = beside;
       lines =
-          damage (m-is 1000000)
+          damage (m_is 1000000)
           ∷ damage (field 5 2 1)
           ∷ call (step 0 1) 17 0
           ∷ [];
@@ -3160,7 +3158,7 @@ own_rides =
     ∷ record {
       start = beside;
       lines =
-          damage (m-is 1000000)
+          damage (m_is 1000000)
           ∷ call (step 0 1) 16 0
           ∷ [];
       after =
@@ -3187,7 +3185,7 @@ own_rides =
     ∷ record {
       start = beside;
       lines =
-          damage (m-is 1000000)
+          damage (m_is 1000000)
           ∷ damage (field 5 0 2)
           ∷ call (step 0 1) 0 0
           ∷ damage (field 0 2 1)
@@ -3257,7 +3255,7 @@ own_rides =
     ∷ record {
       start = onward;
       lines =
-          damage (m-is 1000001)
+          damage (m_is 1000001)
           ∷ call (begin 1 LookUp 10 0) 17 0
           ∷ [];
       after = same;
@@ -3266,7 +3264,7 @@ own_rides =
     ∷ record {
       start = beside;
       lines =
-          damage (m-is 1000000)
+          damage (m_is 1000000)
           ∷ call (begin 1 LookUp 10 0) 0 0
           ∷ [];
       after =
@@ -3296,7 +3294,7 @@ own_rides =
     ∷ record {
       start = beside;
       lines =
-          damage (m-is 1000001)
+          damage (m_is 1000001)
           ∷ call (step 0 1) 17 0
           ∷ [];
       after = same;
@@ -3305,7 +3303,7 @@ own_rides =
     ∷ record {
       start = beside;
       lines =
-          damage (m-is 1000000)
+          damage (m_is 1000000)
           ∷ call (step 0 6) 0 0
           ∷ [];
       after =
@@ -3336,7 +3334,7 @@ own_rides =
     ∷ record {
       start = beside;
       lines =
-          damage (m-is 1000001)
+          damage (m_is 1000001)
           ∷ call (abandon 0) 17 0
           ∷ [];
       after = same;
@@ -3345,7 +3343,7 @@ own_rides =
     ∷ record {
       start = beside;
       lines =
-          damage (m-is 1000000)
+          damage (m_is 1000000)
           ∷ call (abandon 0) 6 0
           ∷ [];
       after =
@@ -3376,7 +3374,7 @@ own_rides =
       start = beside;
       lines =
           call (abandon 0) 6 0
-          ∷ damage (m-is 1000001)
+          ∷ damage (m_is 1000001)
           ∷ call tidy 17 0
           ∷ [];
       after = same;
@@ -3386,7 +3384,7 @@ own_rides =
       start = beside;
       lines =
           call (abandon 0) 6 0
-          ∷ damage (m-is 1000000)
+          ∷ damage (m_is 1000000)
           ∷ call tidy 0 0
           ∷ [];
       after =
@@ -3416,7 +3414,7 @@ own_rides =
     ∷ record {
       start = beside;
       lines =
-          damage (m-is 1000001)
+          damage (m_is 1000001)
           ∷ call figures 17 0
           ∷ [];
       after = same;
@@ -3425,7 +3423,7 @@ own_rides =
     ∷ record {
       start = beside;
       lines =
-          damage (m-is 1000000)
+          damage (m_is 1000000)
           ∷ call figures 0 0
           ∷ [];
       after = same;
@@ -3434,7 +3432,7 @@ own_rides =
     ∷ record {
       start = beside;
       lines =
-          damage (m-is 1000001)
+          damage (m_is 1000001)
           ∷ call (list 6) 17 0
           ∷ [];
       after = same;
@@ -3443,7 +3441,7 @@ own_rides =
     ∷ record {
       start = beside;
       lines =
-          damage (m-is 1000000)
+          damage (m_is 1000000)
           ∷ call (list 6) 0 0
           ∷ [];
       after = same;
@@ -3452,7 +3450,7 @@ own_rides =
     ∷ record {
       start = beside;
       lines =
-          damage (u-is 3)
+          damage (u_is 3)
           ∷ call (begin 1 LookUp 10 0) 17 0
           ∷ [];
       after = same;
@@ -3461,7 +3459,7 @@ own_rides =
     ∷ record {
       start = beside;
       lines =
-          damage (u-is 2)
+          damage (u_is 2)
           ∷ call (begin 1 LookUp 10 0) 0 0
           ∷ [];
       after =
@@ -3491,7 +3489,7 @@ own_rides =
     ∷ record {
       start = beside;
       lines =
-          damage (u-is 3)
+          damage (u_is 3)
           ∷ call (step 0 1) 17 0
           ∷ [];
       after = same;
@@ -3500,7 +3498,7 @@ own_rides =
     ∷ record {
       start = beside;
       lines =
-          damage (u-is 2)
+          damage (u_is 2)
           ∷ call (step 0 6) 0 0
           ∷ [];
       after =
@@ -3532,7 +3530,7 @@ own_rides =
       start = beside;
       lines =
           call (begin 1 LookUp 10 0) 0 0
-          ∷ damage (u-is 3)
+          ∷ damage (u_is 3)
           ∷ call (step 1 1) 17 0
           ∷ [];
       after = same;
@@ -3541,7 +3539,7 @@ own_rides =
     ∷ record {
       start = beside;
       lines =
-          damage (u-is 3)
+          damage (u_is 3)
           ∷ call (abandon 0) 17 0
           ∷ [];
       after = same;
@@ -3550,7 +3548,7 @@ own_rides =
     ∷ record {
       start = beside;
       lines =
-          damage (u-is 2)
+          damage (u_is 2)
           ∷ call (abandon 0) 6 0
           ∷ [];
       after =
@@ -3581,7 +3579,7 @@ own_rides =
       start = beside;
       lines =
           call (abandon 0) 6 0
-          ∷ damage (u-is 4)
+          ∷ damage (u_is 4)
           ∷ call tidy 17 0
           ∷ [];
       after = same;
@@ -3591,7 +3589,7 @@ own_rides =
       start = beside;
       lines =
           call (abandon 0) 6 0
-          ∷ damage (u-is 3)
+          ∷ damage (u_is 3)
           ∷ call tidy 0 0
           ∷ [];
       after =
@@ -3621,7 +3619,7 @@ own_rides =
     ∷ record {
       start = beside;
       lines =
-          damage (u-is 3)
+          damage (u_is 3)
           ∷ call figures 17 0
           ∷ [];
       after = same;
@@ -3630,7 +3628,7 @@ own_rides =
     ∷ record {
       start = beside;
       lines =
-          damage (u-is 2)
+          damage (u_is 2)
           ∷ call figures 0 0
           ∷ [];
       after = same;
@@ -3639,7 +3637,7 @@ own_rides =
     ∷ record {
       start = beside;
       lines =
-          damage (u-is 3)
+          damage (u_is 3)
           ∷ call (list 6) 17 0
           ∷ [];
       after = same;
@@ -3648,7 +3646,7 @@ own_rides =
     ∷ record {
       start = beside;
       lines =
-          damage (u-is 2)
+          damage (u_is 2)
           ∷ call (list 6) 0 0
           ∷ [];
       after = same;
@@ -3658,7 +3656,7 @@ own_rides =
       start = beside;
       lines =
           call (step 0 1) 0 0
-          ∷ damage (u-is 3)
+          ∷ damage (u_is 3)
           ∷ call figures 17 0
           ∷ [];
       after = same;
@@ -3668,7 +3666,7 @@ own_rides =
       start = beside;
       lines =
           call (step 0 4) 0 0
-          ∷ damage (u-is 3)
+          ∷ damage (u_is 3)
           ∷ call figures 17 0
           ∷ [];
       after = same;
@@ -3679,7 +3677,7 @@ own_rides =
       lines =
           call (begin 1 PutIn 40 140) 0 0
           ∷ call (step 1 1) 0 0
-          ∷ damage (u-is 2)
+          ∷ damage (u_is 2)
           ∷ call figures 0 0
           ∷ [];
       after = same;
@@ -3690,7 +3688,7 @@ own_rides =
       lines =
           call (begin 1 PutIn 40 140) 0 0
           ∷ call (step 1 7) 0 0
-          ∷ damage (u-is 3)
+          ∷ damage (u_is 3)
           ∷ call figures 17 0
           ∷ [];
       after = same;
@@ -3701,7 +3699,7 @@ own_rides =
       lines =
           call (begin 1 PutIn 40 140) 0 0
           ∷ call (step 1 7) 0 0
-          ∷ damage (u-is 2)
+          ∷ damage (u_is 2)
           ∷ call figures 0 0
           ∷ [];
       after = same;
@@ -3710,7 +3708,7 @@ own_rides =
     ∷ record {
       start = beside;
       lines =
-          damage (u-is 4294967295)
+          damage (u_is 4294967295)
           ∷ call figures 17 0
           ∷ [];
       after = same;
@@ -3719,7 +3717,7 @@ own_rides =
     ∷ record {
       start = beside;
       lines =
-          damage (m-is 0)
+          damage (m_is 0)
           ∷ call figures 17 0
           ∷ [];
       after = same;
@@ -3728,7 +3726,7 @@ own_rides =
     ∷ record {
       start = beside;
       lines =
-          damage (m-is 1)
+          damage (m_is 1)
           ∷ call figures 0 0
           ∷ [];
       after = same;
@@ -7192,7 +7190,7 @@ own_rides =
           ∷ damage (field 6 3 28)
           ∷ damage (field 6 4 1)
           ∷ damage (field 6 5 3)
-          ∷ damage (length-is 66)
+          ∷ damage (length_is 66)
           ∷ call (step 0 1) 17 0
           ∷ [];
       after = same;
@@ -7208,7 +7206,7 @@ own_rides =
           ∷ damage (field 6 3 27)
           ∷ damage (field 6 4 1)
           ∷ damage (field 6 5 3)
-          ∷ damage (length-is 66)
+          ∷ damage (length_is 66)
           ∷ call (step 0 1) 6 0
           ∷ [];
       after =
