@@ -22,7 +22,6 @@ use Rattle.history.specs.Machine.{real}
 use Rattle.machine.specs.Calls.{list_of, list_reached}
 use Rattle.machine.specs.Choice.{if_b}
 use Rattle.machine.specs.Reach.{count_fares, fare_list, reached}
-use Rattle.machine.specs.Step.{counted}
 use Rattle.terms.specs.declared.State.{State}
 use Rattle.trees.specs.Order.{ALL}
 
