@@ -49,7 +49,7 @@ rich-on r c =
 pub rich-all : {p : Point} → Rich p → (cs : List Ask) → Rich (goes real p cs)
 unfolding goes
 rich-all r [] = r
-rich-all r (c ∷ cs) = rich-all (rich-on r c) cs
+rich-all {p} r (c ∷ cs) = rich-all {p = advance real p c} (rich-on r c) cs
 
 pub rich : (t : List ℕ) (st : State) (cs : List Ask) (n : ℕ) → length t ≡ 6 * n → 8 ≤ n → n ≤ 4096 → Rich (history real t st cs)
 unfolding history started
