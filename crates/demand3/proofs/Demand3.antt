@@ -5,7 +5,6 @@ use mathlib.Core.List.{List, [], ◌∷◌}
 use mathlib.Core.Logic.{◌⊎◌, inl, inr}
 use mathlib.Core.Path.{◌∙◌, ◌≡◌, ap, subst, sym}
 use native.Mathlib.Omega.{arith}
-use Rattle.demand2.proofs.Demand2.{stands}
 use Rattle.demand2.proofs.Fresh.{reset-is, stands-fresh}
 use Rattle.demand2.proofs.Keeps.{stands_on}
 use Rattle.demand2.proofs.Lengths.{fits-of}
@@ -32,7 +31,7 @@ use Rattle.owners.proofs.Bound.{owners_le}
 use Rattle.potential.proofs.Moves.{owes-sentinel, share_plain}
 use Rattle.potential.proofs.Weights.{fib-far}
 use Rattle.potential.specs.Potential.{owes, phi}
-use Rattle.routes.specs.Route.{lev, tree}
+use Rattle.routes.specs.Route.{lev}
 use Rattle.terms.specs.declared.Report.{Report}
 use Rattle.terms.specs.declared.State.{State}
 use Rattle.trees.specs.Rank.{Ranked, height, rank}

@@ -4,7 +4,6 @@ use mathlib.Core.Bool.{Bool, true}
 use mathlib.Core.List.{List, [], ◌∷◌}
 use mathlib.Core.Path.{◌∙◌, ◌≡◌, ap, subst, sym}
 use native.Mathlib.Omega.{arith}
-use Rattle.commits.proofs.Sight.{split}
 use Rattle.demand2.proofs.Seen.{all_idle}
 use Rattle.demand2.proofs.Carried.{goes-both}
 use Rattle.demand2.proofs.Counts.{all_alike}
@@ -17,7 +16,6 @@ use Rattle.history.specs.History.{Ask, abandon, begin, figures, list, reset, ste
 use Rattle.history.specs.Ledger.{Account, Point, advance, goes}
 use Rattle.history.specs.Machine.{real}
 use Rattle.machine.specs.Answers.{number_of}
-use Rattle.machine.specs.Contract.{after}
 use Rattle.machine.specs.Record.{links_of}
 use Rattle.machine.specs.State.{task_at}
 use Rattle.machine.specs.Step.{Left}
