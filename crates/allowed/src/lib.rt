@@ -1,5 +1,6 @@
 // The allowed rank, read off a table of the first 32 Fibonacci numbers.
 #![tactic(auto)]
+
 ghost use Rattle.std.specs.Prelude.{◌≡◌, ◌+◌, ◌*◌, ◌≤◌, ◌<◌, get_or, drop};
 ghost use Rattle.machine.specs.Allowed.{fibonacci, fib, at_most, allowed_rank};
 
@@ -17,6 +18,7 @@ fn fibonacci_at(i: usize) -> u32
 }
 
 // How many numbers of the table, from the third on, are at most b.
+#[tactic(auto, using(machine::proofs::Allowed::count_end, machine::proofs::Allowed::count_stops, machine::proofs::Allowed::count_goes))]
 fn count_at_most(b: u32) -> u32
     ensures { result ≡ at_most (drop 2 fibonacci) b }
 {
@@ -31,6 +33,7 @@ fn count_at_most(b: u32) -> u32
 }
 
 // The largest R whose Fibonacci number R + 3 is at most 2m, and 0 for m = 0.
+#[tactic(auto, unfolding(machine::specs::Allowed::allowed_rank))]
 pub fn allowed_rank(m: u32) -> u32
     requires { m ≤ 1000000 }
     ensures { result ≡ allowed_rank m }

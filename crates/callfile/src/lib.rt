@@ -24,6 +24,7 @@ fn job_of(b: &[u8]) -> Job
 }
 
 // Whether fare number and price are zero.
+#[tactic(auto, unfolding(machine::specs::CallFile::no_job))]
 fn no_job(b: &[u8]) -> bool
     requires { 12 ≤ length b.now }
     ensures { result ≡ no_job b.now }
@@ -32,6 +33,7 @@ fn no_job(b: &[u8]) -> bool
 }
 
 // A begin: its count is not used.
+#[tactic(auto, unfolding(machine::specs::CallFile::begins, machine::specs::Choice::if_b))]
 fn begins_of(b: &[u8], o: Operation) -> Call
     requires { 12 ≤ length b.now }
     ensures { result ≡ begins b.now o }
@@ -43,6 +45,7 @@ fn begins_of(b: &[u8], o: Operation) -> Call
     Call::Bad
 }
 
+#[tactic(auto, unfolding(machine::specs::CallFile::steps, machine::specs::Choice::if_b))]
 fn steps_of(b: &[u8]) -> Call
     requires { 12 ≤ length b.now }
     ensures { result ≡ steps b.now }
@@ -54,6 +57,7 @@ fn steps_of(b: &[u8]) -> Call
     Call::Bad
 }
 
+#[tactic(auto, unfolding(machine::specs::CallFile::abandons, machine::specs::Choice::if_b))]
 fn abandons_of(b: &[u8]) -> Call
     requires { 12 ≤ length b.now }
     ensures { result ≡ abandons b.now }
@@ -64,6 +68,7 @@ fn abandons_of(b: &[u8]) -> Call
     Call::Bad
 }
 
+#[tactic(auto, unfolding(machine::specs::CallFile::tidies, machine::specs::Choice::if_b))]
 fn tidies_of(b: &[u8]) -> Call
     requires { 12 ≤ length b.now }
     ensures { result ≡ tidies b.now }
@@ -76,6 +81,7 @@ fn tidies_of(b: &[u8]) -> Call
 }
 
 // The operation that a begin's byte names.
+#[tactic(auto, unfolding(machine::specs::CallFile::operation_of, machine::specs::Choice::if_b))]
 pub fn operation_of(o: u32) -> Operation
     ensures { result ≡ operation_of o }
 {
@@ -89,6 +95,7 @@ pub fn operation_of(o: u32) -> Operation
 }
 
 // The call by its operation byte.
+#[tactic(auto, unfolding(machine::specs::CallFile::by_operation, machine::specs::Choice::if_b))]
 fn by_operation(o: u32, b: &[u8]) -> Call
     requires { 12 ≤ length b.now }
     ensures { result ≡ by_operation o b.now }
@@ -103,6 +110,7 @@ fn by_operation(o: u32, b: &[u8]) -> Call
 }
 
 // The call of a record; a short one is bad.
+#[tactic(auto, unfolding(machine::specs::CallFile::decode, machine::specs::Choice::if_b))]
 fn call_of(b: &[u8]) -> Call
     ensures { result ≡ decode b.now }
 {
@@ -137,6 +145,7 @@ fn run(t: &mut [u32], st: State, i: u32, count: u32) -> Out
 }
 
 // The call is made.
+#[tactic(auto, unfolding(machine::specs::CallFile::serve, machine::specs::Contract::after))]
 fn serve_call(t: &mut [u32], st: State, c: Call) -> Out
     ensures { after t.new result ≡ serve t.old st c }
 {
@@ -188,6 +197,7 @@ pub fn price_of(a: Answer) -> u32
 }
 
 // Operation or task as they print: 0 for a short record.
+#[tactic(auto, unfolding(machine::specs::CallFile::printed, machine::specs::Choice::if_b))]
 fn printed_at(b: &[u8], i: usize) -> u32
     requires { i < 12 }
     ensures { result ≡ printed i b.now }
@@ -198,6 +208,7 @@ fn printed_at(b: &[u8], i: usize) -> u32
     wide(b[i])
 }
 
+#[tactic(auto, unfolding(machine::specs::CallFile::line_of, crate::specs::Line::numbers))]
 fn line_of(place: u64, b: &[u8], a: Answer) -> Line
     ensures { numbers result ≡ line_of place b.now a }
 {

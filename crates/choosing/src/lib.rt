@@ -32,7 +32,7 @@ fn turn_formed(n: u32, o: Around, y: Rec, w: Rec) -> bool
 }
 
 // pz and z noted: promote, or read x.
-#[tactic(auto, unfolding(machine::specs::Contract::acted, machine::specs::Contract::played, machine::specs::Settling::choose_by, machine::specs::Choice::if_b))]
+#[tactic(auto, unfolding(machine::specs::Contract::acted, machine::specs::Contract::played, machine::specs::Settling::choose_by, machine::specs::Choice::if_b, machine::specs::Table::puts))]
 fn choose_by(
     t: &mut [u32],
     n: u32,
@@ -60,7 +60,7 @@ fn choose_by(
     promote_by(t, n, row, j, q, a, b, z)
 }
 
-#[tactic(auto, unfolding(machine::specs::Contract::acted, machine::specs::Contract::played, machine::specs::Settling::choose_step, machine::specs::Choice::if_b))]
+#[tactic(auto, unfolding(machine::specs::Contract::acted, machine::specs::Contract::played, machine::specs::Settling::choose_step, machine::specs::Choice::if_b, machine::specs::Table::puts))]
 fn choose_step(
     t: &mut [u32],
     n: u32,
@@ -82,7 +82,7 @@ fn choose_step(
 }
 
 // x noted too: rotate, or read y.
-#[tactic(auto, unfolding(machine::specs::Contract::acted, machine::specs::Contract::played, machine::specs::Settling::rotate_on, machine::specs::Choice::if_b))]
+#[tactic(auto, unfolding(machine::specs::Contract::acted, machine::specs::Contract::played, machine::specs::Settling::rotate_on, machine::specs::Choice::if_b, machine::specs::Table::puts))]
 fn rotate_on(
     t: &mut [u32],
     n: u32,
@@ -112,7 +112,7 @@ fn rotate_on(
     rotate_by(t, n, row, j, q, around_of(q, a, b, c), z, x)
 }
 
-#[tactic(auto, unfolding(machine::specs::Contract::acted, machine::specs::Contract::played, machine::specs::Settling::rotate_turn, machine::specs::Choice::if_b))]
+#[tactic(auto, unfolding(machine::specs::Contract::acted, machine::specs::Contract::played, machine::specs::Settling::rotate_turn, machine::specs::Choice::if_b, machine::specs::Table::puts))]
 fn rotate_turn(
     t: &mut [u32],
     n: u32,
@@ -149,7 +149,7 @@ fn rotate_turn(
 }
 
 // A promote whose x was read.
-#[tactic(auto, unfolding(machine::specs::Contract::acted, machine::specs::Contract::played, machine::specs::Settling::commit_three, machine::specs::Settling::promote_by, machine::specs::Choice::if_b))]
+#[tactic(auto, unfolding(machine::specs::Contract::acted, machine::specs::Contract::played, machine::specs::Settling::commit_three, machine::specs::Settling::promote_by, machine::specs::Choice::if_b, machine::specs::Table::puts, machine::specs::Commit::commit_if))]
 fn promote_three(
     t: &mut [u32],
     n: u32,
@@ -175,7 +175,7 @@ fn promote_three(
     promote_by(t, n, row, j, q, a, b, z)
 }
 
-#[tactic(auto, unfolding(machine::specs::Contract::acted, machine::specs::Contract::played, machine::specs::Settling::rotate_first, machine::specs::Choice::if_b))]
+#[tactic(auto, unfolding(machine::specs::Contract::acted, machine::specs::Contract::played, machine::specs::Settling::rotate_first, machine::specs::Choice::if_b, machine::specs::Table::puts))]
 fn rotate_first(
     t: &mut [u32],
     n: u32,
@@ -200,7 +200,7 @@ fn rotate_first(
     promote_three(t, n, row, j, q, a, b, c, z, x)
 }
 
-#[tactic(auto, unfolding(machine::specs::Contract::acted, machine::specs::Contract::played, machine::specs::Settling::rotate_step, machine::specs::Choice::if_b))]
+#[tactic(auto, unfolding(machine::specs::Contract::acted, machine::specs::Contract::played, machine::specs::Settling::rotate_step, machine::specs::Choice::if_b, machine::specs::Table::puts))]
 fn rotate_step(
     t: &mut [u32],
     n: u32,
@@ -223,7 +223,7 @@ fn rotate_step(
 }
 
 // y noted too: the commit, by the ranks found now.
-#[tactic(auto, unfolding(machine::specs::Contract::acted, machine::specs::Contract::played, machine::specs::Settling::double_turn, machine::specs::Choice::if_b))]
+#[tactic(auto, unfolding(machine::specs::Contract::acted, machine::specs::Contract::played, machine::specs::Settling::double_turn, machine::specs::Choice::if_b, machine::specs::Table::puts))]
 fn double_turn(
     t: &mut [u32],
     n: u32,
@@ -256,7 +256,7 @@ fn double_turn(
 }
 
 // A promote whose x and y were read; i is y's slot.
-#[tactic(auto, unfolding(machine::specs::Contract::acted, machine::specs::Contract::played, machine::specs::Settling::commit_four, machine::specs::Settling::promote_by, machine::specs::Choice::if_b))]
+#[tactic(auto, unfolding(machine::specs::Contract::acted, machine::specs::Contract::played, machine::specs::Settling::commit_four, machine::specs::Settling::promote_by, machine::specs::Choice::if_b, machine::specs::Table::puts, machine::specs::Commit::commit_if))]
 fn promote_four(
     t: &mut [u32],
     n: u32,
@@ -285,7 +285,7 @@ fn promote_four(
     promote_by(t, n, row, j, q, a, b, z)
 }
 
-#[tactic(auto, unfolding(machine::specs::Contract::acted, machine::specs::Contract::played, machine::specs::Settling::double_first, machine::specs::Choice::if_b))]
+#[tactic(auto, unfolding(machine::specs::Contract::acted, machine::specs::Contract::played, machine::specs::Settling::double_first, machine::specs::Choice::if_b, machine::specs::Table::puts))]
 fn double_first(
     t: &mut [u32],
     n: u32,
@@ -311,7 +311,7 @@ fn double_first(
     promote_four(t, n, row, j, q, a, b, c, d, o.y, z, x)
 }
 
-#[tactic(auto, unfolding(machine::specs::Contract::acted, machine::specs::Contract::played, machine::specs::Settling::double_step, machine::specs::Choice::if_b))]
+#[tactic(auto, unfolding(machine::specs::Contract::acted, machine::specs::Contract::played, machine::specs::Settling::double_step, machine::specs::Choice::if_b, machine::specs::Table::puts))]
 fn double_step(
     t: &mut [u32],
     n: u32,
@@ -335,7 +335,7 @@ fn double_step(
 }
 
 // A step of a settling task that stands on a level record.
-#[tactic(auto, unfolding(machine::specs::Contract::acted, machine::specs::Contract::played, machine::specs::Settling::settle_step, machine::specs::Choice::if_b))]
+#[tactic(auto, unfolding(machine::specs::Contract::acted, machine::specs::Contract::played, machine::specs::Settling::settle_step, machine::specs::Choice::if_b, machine::specs::Table::puts))]
 pub fn settle_step(t: &mut [u32], n: u32, j: Job, q: Path, f: SettleStage) -> Outcome
     requires { Sized t.old n }
     ensures { acted t.new result ≡ played t.old (settle_step (view n t.old) n j q f) }

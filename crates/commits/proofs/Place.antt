@@ -7,7 +7,6 @@ use mathlib.Core.Logic.{inl, inr}
 use mathlib.Core.Path.{◌≡◌, subst}
 use native.Mathlib.Omega.{arith}
 use Rattle.machine.proofs.Choice.{if_elim, if_false, if_true}
-use Rattle.machine.specs.Contract.{after}
 use Rattle.machine.specs.Table.{View}
 use Rattle.routes.proofs.Kept.{Fate}
 use Rattle.routes.proofs.Level.{above_has, has_occ, lev_at-le, lev_at-plug, lvs-le, lvs-pos, lvs-yes}
@@ -19,7 +18,6 @@ use Rattle.trees.proofs.Plug.{ind-other, ind-same, occ-plug, pos-cases}
 use Rattle.trees.specs.Order.{Side}
 use Rattle.trees.specs.Rank.{rank}
 use Rattle.trees.specs.Tree.{Ctx, Tree, hole, ind, join, leaf, node, occ, occ_c, plug, root, top}
-use Rattle.views.proofs.Law.{inside}
 
 -- ---- routes and level records by sides
 

@@ -68,6 +68,7 @@ pub fresh-hit : (v : View) (N : List Fresh) (s : ℕ) (r : Rec) → times s (slo
 fresh-hit v (m ∷ N) s r d (inl e) =
     fresh-miss (upd v (fill m.slot m.rec)) N s (omega (arith, ind-eq s m.slot e.0)) ∙ upd-hit v (fill m.slot m.rec) s e.0 ∙ e.1
 fresh-hit v (m ∷ N) s r d (inr h) = fresh-hit (upd v (fill m.slot m.rec)) N s r (omega arith) h
+fresh-hit v [] s r d h = elim h [ ]
 
 fresh-ones : (v : View) (N : List Fresh) → AllOne N → ((s : ℕ) → times s (slots N) ≤ 1) → ((s : ℕ) → 1 ≤ times s (slots N) → one_at v s ≡ 0)
     → (s : ℕ) → one_at (upds v (freshes N)) s ≡ one_at v s + times s (slots N)

@@ -8,7 +8,6 @@ use mathlib.Core.Logic.{◌⊎◌, inl, inr}
 use mathlib.Core.Path.{◌∙◌, ◌≡◌, ap, ap₂, refl, sym}
 use native.Mathlib.Nat.{add-zero}
 use native.Mathlib.Omega.{arith}
-use Rattle.commits.proofs.Forms.{turn}
 use Rattle.demand2.proofs.After.{newly, task_after}
 use Rattle.history.specs.Ledger.{Account, Commit, Open, begun, committed, ends, lost_one, one_unsettled, open_at, put, put_ins, put_stepped, shut, stepped, take, take_stepped, unsettled, with_open}
 use Rattle.machine.specs.Answers.{number_of}

@@ -110,7 +110,7 @@ module _ (Q : Point → Tree → Type 0) (at-reset : (l n : ℕ) → l ≡ n * 6
   carried-all {p} s q [] s' =
       let n-is : s.n ≡ s'.n = omega (arith, s.size, s'.size) in
       subst (Q p) (one-tree (view s'.n p.table) s.tree s'.tree (subst (λ n. Carries (view n p.table) s.tree) n-is s.carries) s'.carries) q
-  carried-all s q (c ∷ cs) s' = let r = keeps s c in carried-all r (carried-once s q c r) cs s'
+  carried-all {p} s q (c ∷ cs) s' = let r = keeps s c in carried-all {p = advance real p c} r (carried-once s q c r) cs s'
 
   pub carried : (t : List ℕ) (st : State) (cs : List Ask) (n : ℕ) → length t ≡ 6 * n → 8 ≤ n → n ≤ 4096 → (s : Stands (history real t st cs)) → Q (history real t st cs) s.tree
   unfolding history started

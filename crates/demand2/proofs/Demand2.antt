@@ -22,7 +22,6 @@ use Rattle.history.specs.Machine.{real}
 use Rattle.machine.specs.Calls.{list_of, list_reached}
 use Rattle.machine.specs.Choice.{if_b}
 use Rattle.machine.specs.Reach.{count_fares, fare_list, reached}
-use Rattle.machine.specs.Step.{counted}
 use Rattle.terms.specs.declared.State.{State}
 use Rattle.trees.specs.Order.{ALL}
 
@@ -34,7 +33,7 @@ keeps s c = stands_on s (passing s c).passes
 pub keeps-all : {p : Point} → Stands p → (cs : List Ask) → Stands (goes real p cs)
 unfolding goes
 keeps-all s [] = s
-keeps-all s (c ∷ cs) = keeps-all (keeps s c) cs
+keeps-all {p} s (c ∷ cs) = keeps-all {p = advance real p c} (keeps s c) cs
 
 -- so it holds on every history
 pub stands : (t : List ℕ) (st : State) (cs : List Ask) (n : ℕ) → length t ≡ 6 * n → 8 ≤ n → n ≤ 4096 → Stands (history real t st cs)

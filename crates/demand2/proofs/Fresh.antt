@@ -17,14 +17,12 @@ use Rattle.machine.specs.Record.{free_rec, top_number}
 use Rattle.machine.specs.State.{count_open, fresh_state, settling}
 use Rattle.machine.specs.Step.{same}
 use Rattle.machine.specs.Table.{Write, fill, length_fits, view}
-use Rattle.routes.specs.Route.{tree}
 use Rattle.steps.specs.Trail.{TaskOk}
 use Rattle.terms.specs.Task.{idle_task}
 use Rattle.terms.specs.declared.Answer.TheVariants.{Accepted}
 use Rattle.terms.specs.declared.State.{State}
 use Rattle.trees.proofs.Held.{Carries}
 use Rattle.trees.proofs.Plug.{ind-cases}
-use Rattle.trees.specs.Count.{size}
 use Rattle.trees.specs.Tree.{Tree, leaf}
 use Rattle.views.proofs.Law.{length_law, upd-hit, upd-miss, view-law}
 use Rattle.views.specs.Update.{upd, upds}

@@ -26,7 +26,6 @@ use Rattle.machine.specs.Record.{number_fits, price_fits}
 use Rattle.machine.specs.State.{ask_fits, busy_tasks, job_fits, task_at, with_task}
 use Rattle.machine.specs.Step.{Left}
 use Rattle.machine.specs.Table.{puts, view}
-use Rattle.routes.specs.Route.{tree}
 use Rattle.steps.proofs.Facts.{both}
 use Rattle.steps.specs.Does.{Does}
 use Rattle.steps.specs.Trail.{WorkOk}
@@ -37,7 +36,6 @@ use Rattle.terms.specs.declared.Phase.{Phase}
 use Rattle.terms.specs.declared.State.{State}
 use Rattle.terms.specs.declared.Work.{Work}
 use Rattle.terms.specs.declared.Work.TheVariants.{Busy, Idle}
-use Rattle.trees.specs.Count.{size}
 use Rattle.trees.specs.Tree.{Tree}
 use Rattle.views.proofs.Law.{length_law, view-law}
 use Rattle.views.specs.Update.{Within}

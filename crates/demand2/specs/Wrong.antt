@@ -1,6 +1,5 @@
 -- WRONG MACHINES: each is the real one but for one line; `refusing` alone answers every call otherwise.
 use Rattle.std.specs.Prelude.{◌+◌, ℕ, eqb, length, Bool, false, true, List, [], ◌∷◌}
-use Rattle.history.specs.History.{abandon, begin, figures, list, reset, step, tidy}
 use Rattle.history.specs.Machine.{Machine, with_step}
 use Rattle.machine.specs.Answers.{number_of}
 use Rattle.machine.specs.Calls.{abandon_of, begin_of, empty_table, figures_of, list_of, no_report, reset_of, tidy_of}
@@ -21,7 +20,6 @@ use Rattle.terms.specs.declared.TakeStage.{TakeStage}
 use Rattle.terms.specs.declared.TakeStage.TheVariants.{TakeCommit, TakeGrand, TakeLeft, TakeParent, TakeRight}
 use Rattle.terms.specs.declared.Work.{Work}
 use Rattle.terms.specs.declared.Work.TheVariants.{Busy, Idle}
-use Rattle.trees.specs.Rank.{rank}
 
 -- it refuses every call
 abbrev pub refusing : Machine

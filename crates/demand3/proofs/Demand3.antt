@@ -5,7 +5,6 @@ use mathlib.Core.List.{List, [], ◌∷◌}
 use mathlib.Core.Logic.{◌⊎◌, inl, inr}
 use mathlib.Core.Path.{◌∙◌, ◌≡◌, ap, subst, sym}
 use native.Mathlib.Omega.{arith}
-use Rattle.demand2.proofs.Demand2.{stands}
 use Rattle.demand2.proofs.Fresh.{reset-is, stands-fresh}
 use Rattle.demand2.proofs.Keeps.{stands_on}
 use Rattle.demand2.proofs.Lengths.{fits-of}
@@ -32,7 +31,7 @@ use Rattle.owners.proofs.Bound.{owners_le}
 use Rattle.potential.proofs.Moves.{owes-sentinel, share_plain}
 use Rattle.potential.proofs.Weights.{fib-far}
 use Rattle.potential.specs.Potential.{owes, phi}
-use Rattle.routes.specs.Route.{lev, tree}
+use Rattle.routes.specs.Route.{lev}
 use Rattle.terms.specs.declared.Report.{Report}
 use Rattle.terms.specs.declared.State.{State}
 use Rattle.trees.specs.Rank.{Ranked, height, rank}
@@ -49,7 +48,7 @@ rich-on r c =
 pub rich-all : {p : Point} → Rich p → (cs : List Ask) → Rich (goes real p cs)
 unfolding goes
 rich-all r [] = r
-rich-all r (c ∷ cs) = rich-all (rich-on r c) cs
+rich-all {p} r (c ∷ cs) = rich-all {p = advance real p c} (rich-on r c) cs
 
 pub rich : (t : List ℕ) (st : State) (cs : List Ask) (n : ℕ) → length t ≡ 6 * n → 8 ≤ n → n ≤ 4096 → Rich (history real t st cs)
 unfolding history started

@@ -15,7 +15,6 @@ use Rattle.machine.specs.Record.{is_fare, top_number}
 use Rattle.machine.specs.State.{one}
 use Rattle.routes.proofs.Level.{lv-yes, lvs-le}
 use Rattle.routes.specs.Route.{lev, lv, lvs}
-use Rattle.trees.proofs.Plug.{apart}
 use Rattle.trees.specs.Marks.{LeafMarks}
 use Rattle.trees.specs.Rank.{Ranked, height, rank}
 use Rattle.trees.specs.Tree.{Tree, leaf, leaf_rec, node}

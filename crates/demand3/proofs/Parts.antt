@@ -9,7 +9,6 @@ use mathlib.Core.Logic.{◌⊎◌, inl, inr}
 use mathlib.Core.Path.{◌∙◌, ◌≡◌, ap, refl, subst, sym}
 use native.Mathlib.Omega.{arith}
 use Rattle.commits.proofs.Grounds.{root-rank}
-use Rattle.demand2.proofs.Carried.{none}
 use Rattle.demand2.proofs.Stands.{Stands, slots-is}
 use Rattle.demand3.proofs.Crown.{Crown, Plain}
 use Rattle.demand3.proofs.Demand3.{crowned, figures-reached, height-printed, levels-few, low, paid_is, rich}

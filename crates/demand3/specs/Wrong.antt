@@ -1,6 +1,5 @@
 -- WRONG MACHINES for demand 3: each is the real one but for one line.
 use Rattle.std.specs.Prelude.{ℕ, eqb, Bool, false, not, List}
-use Rattle.history.specs.History.{abandon, begin, figures, list, reset, step, tidy}
 use Rattle.history.specs.Machine.{Machine, with_step}
 use Rattle.machine.specs.Calls.{abandon_of, begin_of, figures_of, list_of, reset_of, tidy_of}
 use Rattle.machine.specs.Choice.{if_b}

@@ -107,6 +107,7 @@ removed-at k p (x ∷ xs) ys s =
 above_not : (k : ℕ) (ys : List Fare) → AllAbove k ys → Held k ys → ⊥
 above_not k (y ∷ ys) a (inl e) = omega (arith, a.0)
 above_not k (y ∷ ys) a (inr h) = above_not k ys a.1 h
+above_not k [] a h = elim h [ ]
 
 not_held : (k p : ℕ) (xs ys : List Fare) → Sorted (xs ++ (fare k p ∷ ys)) → Held k (xs ++ ys) → ⊥
 not_held k p [] ys s h = above_not k ys s.0 h

@@ -7,7 +7,6 @@ use lib.Seq.{get_or-set_other, get_or-set_same}
 use mathlib.Core.Bool.{Bool, ◌&&◌, false, not, true}
 use mathlib.Core.List.{List, [], ◌++◌, ◌∷◌}
 use mathlib.Core.Logic.{◌⊎◌, inl, inr}
-use mathlib.Core.Option.{none}
 use mathlib.Core.Path.{◌∙◌, ◌≡◌, ap, ap₂, refl, subst, sym}
 use native.Mathlib.Omega.{arith}
 use Rattle.fares.proofs.Formed.{entry-formed}

@@ -15,8 +15,8 @@ use Rattle.grounds.proofs.Lists.{among_as, among_left, among_right}
 -- the first ground that holds gives its number; where none does the call is served
 pub data Falls (served : List ℕ) (a : ℕ) : List Refusal → Type 1 where
   serves : Among served a → Falls served a []
-  strikes : {r : Refusal} {rs : List Refusal} → r.ground → a ≡ r.number → Falls served a (r ∷ rs)
-  passes : {r : Refusal} {rs : List Refusal} → ¬ r.ground → Falls served a rs → Falls served a (r ∷ rs)
+  strikes : {r : Refusal} {rs : List Refusal} → r.reason → a ≡ r.number → Falls served a (r ∷ rs)
+  passes : {r : Refusal} {rs : List Refusal} → ¬ r.reason → Falls served a rs → Falls served a (r ∷ rs)
 
 -- no number of the list is k
 abbrev pub without : ℕ → List ℕ → Bool
@@ -52,7 +52,7 @@ module _ (served : List ℕ) (a : ℕ) where
       (among_right (numbers rs) served r.number (among_as served _ _ q h)))
   served-none (r ∷ rs) e (passes g f) h = (g, served-none rs (both-second (without r.number (numbers rs ++ served)) _ e) f h)
 
-none-snoc : (before : List Refusal) (r : Refusal) → None before → ¬ r.ground → None (before ++ (r ∷ []))
+none-snoc : (before : List Refusal) (r : Refusal) → None before → ¬ r.reason → None (before ++ (r ∷ []))
 none-snoc [] r h g = (g, tt)
 none-snoc (b ∷ bs) r h g = (h.0, none-snoc bs r h.1 g)
 
@@ -67,7 +67,7 @@ module _ (a : ℕ) where
       drop-last [] n = tt
       drop-last (b ∷ bs) n = (n.0, drop-last bs n.1)
 
-last_out : (bs : List Refusal) (r : Refusal) → None (bs ++ (r ∷ [])) → ¬ r.ground
+last_out : (bs : List Refusal) (r : Refusal) → None (bs ++ (r ∷ [])) → ¬ r.reason
 last_out [] r n = n.0
 last_out (b ∷ bs) r n = last_out bs r n.1
 
@@ -110,6 +110,6 @@ module _ {A : Type 0} (P : A → Type 1) where
 -- one look: the test says the ground; where it holds its number is answered, otherwise the next looks follow
 pub look :
     {A : Type 0} (number : A → ℕ) (served : List ℕ) {r : Refusal} {rs : List Refusal} (b : Bool) {x y : A}
-    → Says b r.ground → number x ≡ r.number → (¬ r.ground → Falls served (number y) rs) → Falls served (number (if_b b x y)) (r ∷ rs)
+    → Says b r.reason → number x ≡ r.number → (¬ r.reason → Falls served (number y) rs) → Falls served (number (if_b b x y)) (r ∷ rs)
 look number served {r} {rs} b s e f =
     if_falls (λ z. Falls served (number z) (r ∷ rs)) b (λ h. strikes (s.holds h) e) (λ h. passes (s.fails h) (f (s.fails h)))

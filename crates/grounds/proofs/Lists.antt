@@ -1,5 +1,5 @@
 -- Lists of numbers without one that stands twice.
-use Prim.Native.Nat.{ℕ, suc, ◌+◌, ◌≤◌}
+use Prim.Native.Nat.{ℕ, suc, ◌≤◌}
 use mathlib.Core.Path.{◌≡◌, refl, sym, ◌∙◌}
 use mathlib.Core.List.{List, [], ◌∷◌, ◌++◌}
 use mathlib.Core.Logic.{◌⊎◌, inl, inr, ◌≢◌}
@@ -13,6 +13,7 @@ among_as xs a b e h = rw e at h
 pub among_left : (xs ys : List ℕ) (a : ℕ) → Among xs a → Among (xs ++ ys) a
 among_left (x ∷ xs) ys a (inl h) = inl h
 among_left (x ∷ xs) ys a (inr h) = inr (among_left xs ys a h)
+among_left [] ys a h = elim h [ ]
 
 pub among_right : (xs ys : List ℕ) (a : ℕ) → Among ys a → Among (xs ++ ys) a
 among_right [] ys a h = h
@@ -46,6 +47,7 @@ cut x (y ∷ ys) (inr h) =
       shorter = let e = c.shorter in omega arith;
       others = λ a d i. elim i [ inl e ↦ inl e | inr j ↦ inr (c.others a d j) ];
     }
+cut x [] h = elim h [ ]
 
 -- what is in the second list, each once, is no more than the second list
 pub no_longer : (xs ys : List ℕ) → ¬ (Twice xs) → ((a : ℕ) → Among xs a → Among ys a) → length xs ≤ length ys

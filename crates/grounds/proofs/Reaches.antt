@@ -1,5 +1,5 @@
 -- What the entry reaches is damaged exactly where document 01 says so.
-use Prim.Native.Nat.{ℕ, zero, suc, ◌+◌, ◌≤◌, ◌<◌}
+use Prim.Native.Nat.{ℕ, zero, suc, ◌≤◌, ◌<◌}
 use mathlib.Core.Path.{◌≡◌, refl, sym, ap, ◌∙◌}
 use mathlib.Core.Bool.{Bool, true, false, ◌&&◌, not, true≢false}
 use mathlib.Core.List.{List, [], ◌∷◌, ◌++◌}
@@ -17,7 +17,7 @@ use Rattle.grounds.specs.Order.{Among}
 use Rattle.grounds.specs.Record.{WellFormed}
 use Rattle.grounds.specs.Ways.{Way, link_on, Goes, ReachDamaged, not-well-formed, in-state-2, reached-twice, Fare, Fares}
 use Rattle.grounds.proofs.Says.{Denies, denies-not, denies-both, says_struck, unless, says_both, says_eq}
-use Rattle.grounds.proofs.Records.{says_in_tree, says_leaf, says_formed, says_linked}
+use Rattle.grounds.proofs.Records.{says_in_tree, says_formed, says_linked}
 use Rattle.grounds.proofs.Lists.{no_longer}
 use Rattle.grounds.proofs.Spans.{mark_kept, mark_made, fare_slots, Spans, below, bare, two-links, spans_leaf, spans_node}
 

@@ -7,7 +7,7 @@ use Rattle.grounds.specs.Order.{Refusal}
 use Rattle.grounds.specs.State.{TableLength, TaskNumberAbove7, OutOfRange, TaskBusy, TaskIdle, TaskSettles, CountsDamaged}
 
 abbrev pub refuse : ℕ → Type 0 → Refusal
-refuse k g = record { number = k; ground = g }
+refuse k g = record { number = k; reason = g }
 
 -- 18 "table not 6 times 8 to 4,096 numbers long"
 abbrev pub length18 : List ℕ → Refusal

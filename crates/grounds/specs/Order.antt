@@ -4,16 +4,16 @@ use Rattle.std.specs.Prelude.{ℕ, ◌≡◌, List, [], ◌∷◌, ◌++◌, ◌
 -- a refusal: its number, and its ground in document 01's words. The answer 6 is listed like one, after them
 pub record Refusal : Type 1 where
   pub number : ℕ
-  pub ground : Type 0
+  pub reason : Type 0
 
 -- no ground of the list holds
 abbrev pub None : List Refusal → Type 0
 None [] = Unit {0}
-None (r ∷ rs) = (¬ r.ground) × None rs
+None (r ∷ rs) = (¬ r.reason) × None rs
 
 -- the number answered is that of the refusal exactly when its ground holds and none before it does
 abbrev pub Given : ℕ → List Refusal → Refusal → Type 0
-Given a before r = (a ≡ r.number) ↔ (r.ground × None before)
+Given a before r = (a ≡ r.number) ↔ (r.reason × None before)
 
 -- so it is for each refusal of a list, those already passed being `before`
 abbrev pub Each : ℕ → List Refusal → List Refusal → Type 0

@@ -25,6 +25,7 @@ module _ (v : View) (k b : ℕ) where
   next-below (via s rk l) w a n (inr h) = inr (next-below l w.4 a n h)
   next-below (via s rk stop) w a n (inl h) = absurd h.1
   next-below (via s rk (via s' rk' l)) w a n (inl h) = elim h.1 [ inl q ↦ absurd (n (rw (h.0, w.2, w.1, w.4.1) q.1)) | inr g ↦ inr (inl (ap (next v k) h.0 ∙ w.2, g)) ]
+  next-below stop w a n h = elim h [ ]
 
   pub meets_next : (L : Route) → Follows v k L → (a : ℕ) → (lv (v a).rank (v (next v k a)).rank ≡ true → ⊥) → Meets v L k b a → Meets v L k b (next v k a)
   meets_next L w a n (tree h) = tree (next-below L w a n h)
@@ -36,6 +37,7 @@ module _ (v : View) (k b : ℕ) where
   leaf_below_lem (via s rk l) w a z (inr h) = leaf_below_lem l w.4 a z h
   leaf_below_lem (via s rk stop) w a z (inl h) = h.1
   leaf_below_lem (via s rk (via s' rk' l)) w a z (inl h) = w.3 (sym (ap (next v k) h.0 ∙ w.2) ∙ z)
+  leaf_below_lem stop w a z h = elim h [ ]
 
   pub meets_leaf : (L : Route) → Follows v k L → (a : ℕ) → next v k a ≡ 0 → Meets v L k b a → ⊥
   meets_leaf L w a z (tree h) = leaf_below_lem L w a z h

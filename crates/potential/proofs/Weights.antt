@@ -3,7 +3,6 @@ use Prim.Native.Nat.{◌+◌, ◌≤◌, suc, zero, ℕ}
 use mathlib.Core.Path.{◌≡◌, ap, refl}
 use native.Mathlib.Numerals.{unary_clauses}
 use native.Mathlib.Omega.{arith}
-use Rattle.commits.proofs.Commits.{two}
 use Rattle.machine.specs.Allowed.{fib}
 use Rattle.potential.specs.Potential.{weight}
 

@@ -139,7 +139,7 @@ one-call {p} s top i h c nb same s' = go (touched s i (passing s c).passes nb)
 all_calls : (i : ℕ) (cs : List Ask) {p : Point} (s : Stands p) → rank s.tree ≡ 255 → Calmly s i (task_at p.state i).work → Untouched real i p cs → starts_at (goes real p cs) i ≡ false
 unfolding goes
 all_calls i [] {p} s top h u = calmly-starts s i (task_at p.state i).work h
-all_calls i (c ∷ cs) s top h u =
+all_calls i (c ∷ cs) {p} s top h u =
     let s' = keeps s c in
     all_calls i cs s' (same-top s s' u.1 top) (one-call s top i h c u.0 u.1 s') u.2
 

@@ -26,7 +26,7 @@ settled-from s B n h [] = (s, h)
 settled-from {p} s B n h (c ∷ cs) =
     let g = (passing s c).passes in
     let s' = stands_on s g in
-    settled-from s' B (tallied n p c (left real p.table p.state c)) (rw (same-tree s g s') (call_fair s B n h g)) cs
+    settled-from {p = advance real p c} s' B (tallied n p c (left real p.table p.state c)) (rw (same-tree s g s') (call_fair s B n h g)) cs
 
 module _ (t : List ℕ) (st : State) (cs ds : List Ask) (n : ℕ) (e : length t ≡ 6 * n) (least : 8 ≤ n) (most : n ≤ 4096) where
   abbrev from : Point

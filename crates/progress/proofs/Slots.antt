@@ -34,6 +34,7 @@ module _ (v : View) (k : ℕ) where
   on-walked : (a l b : ℕ) → Walked v k a l → On a l b → (W : ℕ) × (W ≤ l) × Walked v k b W
   on-walked a (suc l) b w (inl e) = (suc l, omega arith, subst (λ x. Walked v k x (suc l)) (sym e) w)
   on-walked a (suc l) b w (inr o) = let r = on-walked (next v k a) l b w.1 o in (r.0, omega (arith, r.1), r.2)
+  on-walked a zero b w h = elim h [ ]
 
   not_again : (a l : ℕ) → Walked v k a (suc l) → On (next v k a) l a → ⊥
   not_again a l w o = let r = on-walked (next v k a) l a w.1 o in omega (arith, r.1, one-length a (suc l) r.0 w r.2)

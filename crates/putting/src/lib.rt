@@ -92,6 +92,7 @@ fn put_turn(j: Job, p: Rec, h: Rec) -> Turn
 }
 
 // The five writes of a put-in.
+#[tactic(auto, unfolding(machine::specs::Table::puts))]
 fn five_writes(t: &mut [u32], n: u32, q: Path, left: bool, top: Rec, low: Rec, high: Rec, s: Triple)
     requires { Sized t.old n × (s.first < n) × (s.second < n) × (s.third < n) × (q.here < n) × (q.parent < n) }
     ensures { t.new ≡ puts t.old (five_writes q left top low high s.first s.second s.third) }
@@ -122,7 +123,7 @@ fn put_writes(t: &mut [u32], n: u32, j: Job, q: Path, left: bool, h: Rec, s: Tri
 }
 
 // Room, and the writes.
-#[tactic(auto, unfolding(machine::specs::Contract::acted, machine::specs::Contract::played, machine::specs::PutIn::put_room, machine::specs::Choice::if_b))]
+#[tactic(auto, unfolding(machine::specs::Contract::acted, machine::specs::Contract::played, machine::specs::Table::puts, machine::specs::Choice::if_b, machine::specs::PutIn::put_room))]
 fn put_room(t: &mut [u32], n: u32, j: Job, q: Path, left: bool, p: Rec, h: Rec) -> Outcome
     requires { Sized t.old n × (q.here < n) × (q.parent < n) }
     ensures { acted t.new result ≡ played t.old (put_room (view n t.old) n j q left p h) }
@@ -139,7 +140,7 @@ fn put_room(t: &mut [u32], n: u32, j: Job, q: Path, left: bool, p: Rec, h: Rec) 
 }
 
 // The limit, looked at after the test.
-#[tactic(auto, unfolding(machine::specs::Contract::acted, machine::specs::Contract::played, machine::specs::PutIn::put_limit, machine::specs::Choice::if_b))]
+#[tactic(auto, unfolding(machine::specs::Contract::acted, machine::specs::Contract::played, machine::specs::Table::puts, machine::specs::Choice::if_b, machine::specs::PutIn::put_limit))]
 fn put_limit(t: &mut [u32], n: u32, m: u32, j: Job, q: Path, left: bool, p: Rec, h: Rec) -> Outcome
     requires { Sized t.old n × (q.here < n) × (q.parent < n) }
     ensures { acted t.new result ≡ played t.old (put_limit (view n t.old) n m j q left p h) }
@@ -151,7 +152,7 @@ fn put_limit(t: &mut [u32], n: u32, m: u32, j: Job, q: Path, left: bool, p: Rec,
 }
 
 // The commit of a put-in.
-#[tactic(auto, unfolding(machine::specs::Contract::acted, machine::specs::Contract::played, machine::specs::PutIn::put_commit, machine::specs::Choice::if_b))]
+#[tactic(auto, unfolding(machine::specs::Contract::acted, machine::specs::Contract::played, machine::specs::Table::puts, machine::specs::Choice::if_b, machine::specs::PutIn::put_commit, machine::specs::Commit::commit_if))]
 fn put_commit(t: &mut [u32], n: u32, m: u32, j: Job, q: Path, a: Links, b: Links) -> Outcome
     requires { Sized t.old n }
     ensures { acted t.new result ≡ played t.old (put_commit (view n t.old) n m j q a b) }
@@ -195,7 +196,7 @@ fn read_put_leaf(n: u32, j: Job, q: Path, a: Links, h: Rec) -> Turn
 }
 
 // A step of a put-in that has walked.
-#[tactic(auto, unfolding(machine::specs::Contract::acted, machine::specs::Contract::played, machine::specs::PutIn::put_step, machine::specs::Choice::if_b))]
+#[tactic(auto, unfolding(machine::specs::Contract::acted, machine::specs::Contract::played, machine::specs::Table::puts, machine::specs::Choice::if_b, machine::specs::PutIn::put_step))]
 pub fn put_step(t: &mut [u32], n: u32, m: u32, j: Job, q: Path, s: PutStage) -> Outcome
     requires { Sized t.old n }
     ensures { acted t.new result ≡ played t.old (put_step (view n t.old) n m j q s) }

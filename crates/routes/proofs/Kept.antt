@@ -62,6 +62,7 @@ walk_full v k t lt i = (
 pub walk_one : (v : View) (k : ℕ) (L : Route) (b : ℕ) → Follows v k L → Has b L → (v b).state ≡ 1
 walk_one v k (via s rk l) b w (inl e) = rw e w.0
 walk_one v k (via s rk l) b w (inr h) = walk_one v k l b w.4 h
+walk_one v k stop b w h = elim h [ ]
 
 -- ---- what a commit does to one record
 
@@ -137,6 +138,7 @@ module _ (v w : View) (fate : (y : ℕ) → Fate v (v y) (w y)) (k : ℕ) where
             pair (ap (λ r. r.state) off) (nz off) (rw (next-off s off ∙ wk.2) (stays_used (fate s') (λ z. omega (arith, wk.4.0, z))).1)
             (new_pair s s' off wk.2 wk.4.0 (rw (wk.1, wk.4.1) q.1))
         below off (inr g) ih = gone (ap (λ r. r.state) off) (nz off) (rw (next-off s off ∙ wk.2) (ih g))
+    descend stop wk kp a h = elim h [ ]
 
     -- MM
     pub meets_kept : (L : Route) → Follows v k L → ((a : ℕ) → (w a).state ≡ 1 → Below a b L → Below a b' L') → (a : ℕ) → Meets v L k b a → Meets w L' k b' a
@@ -167,6 +169,7 @@ module _ (v w : View) (fate : (y : ℕ) → Fate v (v y) (w y)) (k : ℕ) where
           | inr off ↦ led (ap (λ r. r.state) off) (λ z. wk.3 (sym (next-off s off ∙ wk.2) ∙ z))
               (rw (next-off s off ∙ wk.2) (settle (via s' rk' l) wk.4 (λ y o g. kp y o (inr g)) (λ y g. now y (inr g)) s' (inl refl)))
         ])
+    settle stop wk kp now a h = elim h [ ]
 
     -- GM
     pub good-kept : (L : Route) → Follows v k L → ((a : ℕ) → (w a).state ≡ 1 → Has a L → Has a L') → ((a : ℕ) → Has a L → next v k a ≡ 0 → W' (v a).number (v a).price) → (a : ℕ) → Good W v L k a → Good W' w L' k a
@@ -184,6 +187,7 @@ next-has : (v : View) (k : ℕ) (L : Route) → Follows v k L → (a : ℕ) → 
 next-has v k (via s rk l) w a n (inr h) = inr (next-has v k l w.4 a n h)
 next-has v k (via s rk stop) w a n (inl e) = absurd (n (ap (next v k) e ∙ w.2))
 next-has v k (via s rk (via s' rk' l)) w a n (inl e) = inr (inl (ap (next v k) e ∙ w.2))
+next-has v k stop w a n h = elim h [ ]
 
 pub good-next : {W : ℕ → ℕ → Type 0} (v : View) (k : ℕ) (L : Route) → Follows v k L → (a : ℕ) → (next v k a ≡ 0 → ⊥) → Good W v L k a → Good W v L k (next v k a)
 good-next v k L w a n (here h) = here (next-has v k L w a n h)

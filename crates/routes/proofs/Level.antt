@@ -9,7 +9,7 @@ use mathlib.Core.Logic.{inl, inr}
 use mathlib.Core.Path.{◌≡◌, refl}
 use native.Mathlib.Omega.{arith}
 use Rattle.machine.proofs.Choice.{if_elim, if_false, if_true}
-use Rattle.routes.specs.Route.{Above, Below, Has, Level, Route, full, lev, lev_at, lev_c, lv, lvs, rank_c, route, via}
+use Rattle.routes.specs.Route.{Above, Below, Has, Level, Route, full, lev, lev_at, lev_c, lv, lvs, rank_c, route, via, stop}
 use Rattle.trees.proofs.Counting.{sum_add, sum_none, sum_one}
 use Rattle.trees.proofs.Plug.{ind-eq, ind-same}
 use Rattle.trees.specs.Count.{sum_to}
@@ -78,10 +78,12 @@ has_occ k b (node s key rk l r) h =
     if_elim (λ L. Has b (via s rk L) → 1 ≤ occ b (node s key rk l r)) (ltb k key)
     (λ q. elim [ inl e ↦ omega (arith, ind-eq b s e) | inr g ↦ omega (arith, has_occ k b l g) ])
     (λ q. elim [ inl e ↦ omega (arith, ind-eq b s e) | inr g ↦ omega (arith, has_occ k b r g) ]) h
+has_occ k b (leaf s key pr rk) (inr h) = elim h [ ]
 
 pub above_has : (a b : ℕ) (L : Route) → Above a b L → Has b L
 above_has a b (via s rk L) (inl h) = inr h.1
 above_has a b (via s rk L) (inr h) = inr (above_has a b L h)
+above_has a b stop h = elim h [ ]
 
 -- below a node: u is the side on which the route goes on, o the other
 module _ (q s rk k b : ℕ) (u o : Tree) (once : ind b s + occ b u + occ b o ≤ 1) (is : 1 ≤ lvs q rk (ind b s) + lev_at rk b u + lev_at rk b o) where
@@ -103,6 +105,7 @@ level-here q k b (node s key rk l r) once is h =
     if_elim (λ L. Has b (via s rk L) → Level q b (via s rk L)) (ltb k key)
     (λ y. level-node q s rk k b l r (omega arith) (omega arith) (level-here rk k b l (omega arith)))
     (λ y. level-node q s rk k b r l (omega arith) (omega arith) (level-here rk k b r (omega arith))) h
+level-here q k b (leaf s key pr rk) once is (inr h) = elim h [ ]
 
 below-tree : (q a k b : ℕ) (t : Tree) → occ b t ≤ 1 → 1 ≤ lev_at q b t → Above a b (route k t) → Below a b (route k t)
 below-tree q a k b (leaf s key pr rk) once is (inl h) = absurd h.1
@@ -122,7 +125,9 @@ level-above a b (via s rk L) (inl h) = inl (h.0, level-has rk b L h.1)
     level-has : (q b : ℕ) (L : Route) → Level q b L → Has b L
     level-has q b (via s rk L) (inl h) = inl h.0
     level-has q b (via s rk L) (inr h) = inr (level-has rk b L h)
+    level-has q b stop h = elim h [ ]
 level-above a b (via s rk L) (inr h) = inr (level-above a b L h)
+level-above a b stop h = elim h [ ]
 
 -- ---- a list that holds every level record is at least as long as there are level records
 

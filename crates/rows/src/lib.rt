@@ -108,6 +108,7 @@ pub fn around_of(q: Path, a: Links, b: Links, c: Links) -> Around
 }
 
 // Promote: z's copy with one rank more.
+#[tactic(auto, unfolding(machine::specs::Table::puts))]
 pub fn promote_writes(t: &mut [u32], n: u32, q: Path, high: bool, b: Links, z: Rec, i: u32)
     requires { Sized t.old n × (z.rank < 28) × (i < n) × (q.parent < n) × (q.grand < n) }
     ensures { t.new ≡ puts t.old (promote_writes q high b z i) }
@@ -118,6 +119,7 @@ pub fn promote_writes(t: &mut [u32], n: u32, q: Path, high: bool, b: Links, z: R
 }
 
 // The five writes of a rotation: the record on top, and the one below it.
+#[tactic(auto, unfolding(machine::specs::Table::puts))]
 fn two_records(t: &mut [u32], n: u32, q: Path, o: Around, top: Rec, below: Rec, i: u32, k: u32)
     requires { Sized t.old n × (i < n) × (k < n) × (q.parent < n) × (q.here < n) × (q.grand < n) }
     ensures { t.new ≡ puts t.old (two_records q o top below i k) }
@@ -165,6 +167,7 @@ fn double_z(o: Around, d: Links, z: Rec) -> Rec
 }
 
 // The seven writes of a double rotation: left and right are the records below y's copy.
+#[tactic(auto, unfolding(machine::specs::Table::puts))]
 fn seven_writes(
     t: &mut [u32],
     n: u32,

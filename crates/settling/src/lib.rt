@@ -115,7 +115,7 @@ pub fn settled_on(j: Job) -> Outcome
 }
 
 // Promote.
-#[tactic(auto, unfolding(machine::specs::Contract::acted, machine::specs::Contract::played, machine::specs::Settling::promote_do, machine::specs::Choice::if_b))]
+#[tactic(auto, unfolding(machine::specs::Contract::acted, machine::specs::Contract::played, machine::specs::Settling::promote_do, machine::specs::Choice::if_b, machine::specs::Table::puts))]
 fn promote_do(t: &mut [u32], n: u32, j: Job, q: Path, high: bool, b: Links, z: Rec) -> Outcome
     requires { Sized t.old n × (q.parent < n) × (q.grand < n) }
     ensures { acted t.new result ≡ played t.old (promote_do (view n t.old) n j q high b z) }
@@ -132,7 +132,7 @@ fn promote_do(t: &mut [u32], n: u32, j: Job, q: Path, high: bool, b: Links, z: R
 }
 
 // Rotate, with the new ranks of x and z.
-#[tactic(auto, unfolding(machine::specs::Contract::acted, machine::specs::Contract::played, machine::specs::Settling::rotate_do, machine::specs::Choice::if_b))]
+#[tactic(auto, unfolding(machine::specs::Contract::acted, machine::specs::Contract::played, machine::specs::Settling::rotate_do, machine::specs::Choice::if_b, machine::specs::Table::puts))]
 fn rotate_do(
     t: &mut [u32],
     n: u32,
@@ -155,7 +155,7 @@ fn rotate_do(
     settled_on(j)
 }
 
-#[tactic(auto, unfolding(machine::specs::Contract::acted, machine::specs::Contract::played, machine::specs::Settling::rotate_two_do, machine::specs::Choice::if_b))]
+#[tactic(auto, unfolding(machine::specs::Contract::acted, machine::specs::Contract::played, machine::specs::Settling::rotate_two_do, machine::specs::Choice::if_b, machine::specs::Table::puts))]
 fn rotate_two_do(t: &mut [u32], n: u32, j: Job, q: Path, o: Around, z: Rec, x: Rec) -> Outcome
     requires { Sized t.old n × (q.parent < n) × (q.here < n) × (q.grand < n) }
     ensures { acted t.new result ≡ played t.old (rotate_two_do (view n t.old) n j q o z x) }
@@ -167,7 +167,7 @@ fn rotate_two_do(t: &mut [u32], n: u32, j: Job, q: Path, o: Around, z: Rec, x: R
 }
 
 // Double rotation.
-#[tactic(auto, unfolding(machine::specs::Contract::acted, machine::specs::Contract::played, machine::specs::Settling::double_do, machine::specs::Choice::if_b))]
+#[tactic(auto, unfolding(machine::specs::Contract::acted, machine::specs::Contract::played, machine::specs::Settling::double_do, machine::specs::Choice::if_b, machine::specs::Table::puts))]
 fn double_do(
     t: &mut [u32],
     n: u32,
@@ -191,7 +191,7 @@ fn double_do(
 }
 
 // The change by its row.
-#[tactic(auto, unfolding(machine::specs::Contract::acted, machine::specs::Contract::played, machine::specs::Settling::promote_by, machine::specs::Choice::if_b))]
+#[tactic(auto, unfolding(machine::specs::Contract::acted, machine::specs::Contract::played, machine::specs::Settling::promote_by, machine::specs::Choice::if_b, machine::specs::Table::puts))]
 pub fn promote_by(
     t: &mut [u32],
     n: u32,
@@ -212,7 +212,7 @@ pub fn promote_by(
     }
 }
 
-#[tactic(auto, unfolding(machine::specs::Contract::acted, machine::specs::Contract::played, machine::specs::Settling::rotate_by, machine::specs::Choice::if_b))]
+#[tactic(auto, unfolding(machine::specs::Contract::acted, machine::specs::Contract::played, machine::specs::Settling::rotate_by, machine::specs::Choice::if_b, machine::specs::Table::puts))]
 pub fn rotate_by(
     t: &mut [u32],
     n: u32,
@@ -234,7 +234,7 @@ pub fn rotate_by(
     }
 }
 
-#[tactic(auto, unfolding(machine::specs::Contract::acted, machine::specs::Contract::played, machine::specs::Settling::double_by, machine::specs::Choice::if_b))]
+#[tactic(auto, unfolding(machine::specs::Contract::acted, machine::specs::Contract::played, machine::specs::Settling::double_by, machine::specs::Choice::if_b, machine::specs::Table::puts))]
 pub fn double_by(
     t: &mut [u32],
     n: u32,

@@ -1,5 +1,6 @@
 // The state by value: the counts over its eight tasks, its soundness, and a task's turn stored in it.
 #![tactic(auto)]
+
 ghost use Rattle.std.specs.Prelude.{◌≡◌, ◌&&◌, ◌+◌, ◌-◌, ◌*◌, ◌≤◌, ◌<◌};
 ghost use Rattle.machine.specs.State.{one, settling, busy_tasks, sound, job_fits, ask_fits, may_price, with_task, fresh_state};
 ghost use Rattle.machine.specs.Contract.{turned_out};
@@ -46,6 +47,7 @@ pub fn count_busy(st: State) -> u32
 }
 
 // Whether m is in range and c is at most m.
+#[tactic(auto, unfolding(machine::specs::State::sound, machine::specs::State::count_open))]
 pub fn is_sound(st: State) -> bool
     ensures { result ≡ sound st }
 {
@@ -53,6 +55,7 @@ pub fn is_sound(st: State) -> bool
     (st.m <= 1000000) & (all <= st.m as u64)
 }
 
+#[tactic(auto, unfolding(machine::specs::State::job_fits, machine::specs::Record::number_fits, machine::specs::Record::price_fits))]
 pub fn job_fits(j: Job) -> bool
     ensures { result ≡ job_fits j }
 {
@@ -69,6 +72,7 @@ fn may_price(o: Operation) -> bool
     }
 }
 
+#[tactic(auto, unfolding(machine::specs::State::ask_fits))]
 pub fn ask_fits(o: Operation, j: Job) -> bool
     ensures { result ≡ ask_fits o j }
 {
@@ -123,6 +127,7 @@ pub fn with_counts(st: State, i: usize, k: Task, m: u32, u: u32) -> State
 }
 
 // The turn of task i is carried out on the state, and answered.
+#[tactic(auto, unfolding(machine::specs::Contract::turned_out))]
 pub fn turn_out(st: State, i: usize, a: Turn, committed: bool) -> Out
     requires { (i < 8) × (st.m ≤ 1000000) × (st.u ≤ 1000000) }
     ensures { result ≡ turned_out st i a committed }

@@ -1,6 +1,6 @@
 -- The numbers of a state, written row by row.
 use mathlib.Core.Path.{◌≡◌, refl, sym, ap, ◌∙◌}
-use mathlib.Core.List.{List, [], ◌∷◌, ◌++◌, map, append_assoc, append_nil}
+use mathlib.Core.List.{List, [], ◌∷◌, ◌++◌, map, append_assoc, append-nil}
 use Prim.Native.Nat.{ℕ, ◌+◌, ◌-◌, ◌*◌, ◌≤◌, ◌<◌}
 use native.Mathlib.Numerals.{add-one}
 use native.Mathlib.Omega.{arith}
@@ -22,7 +22,7 @@ rows_more : (ts : List Task) (i : ℕ) → i < length ts → rows (take (i + 1) 
 unfolding rows
 rows_more ts i h =
     rw (add-one i, take-suc ts i idle_task h)
-    (rows_append (take i ts) (get_or ts i idle_task ∷ []) ∙ ap (λ (r : List ℕ). rows (take i ts) ++ r) (append_nil (work_row (get_or ts i idle_task).work)))
+    (rows_append (take i ts) (get_or ts i idle_task ∷ []) ∙ ap (λ (r : List ℕ). rows (take i ts) ++ r) (append-nil (work_row (get_or ts i idle_task).work)))
 
 -- the first i tasks written over the front of a row of numbers
 unfoldable pub written : List Task → ℕ → List ℕ → List ℕ

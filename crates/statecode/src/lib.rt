@@ -1,5 +1,6 @@
 // A state as 122 numbers, and back (docs/PROBE.md): eight tasks of 15 numbers each, then m, then u.
 #![tactic(auto)]
+
 ghost use Rattle.std.specs.Prelude.{◌≡◌, ◌++◌, ◌+◌, ◌*◌, ◌≤◌, ◌<◌, length, get_or, take, drop, set, true};
 ghost use Rattle.std.proofs.Math.Seq.{paste};
 ghost use Rattle.terms.specs.Task.{work_settles};
@@ -211,6 +212,7 @@ fn links_by(w: &[u32], i: usize) -> Links
     }
 }
 
+#[tactic(auto, unfolding(crate::specs::Code::goal_by, machine::specs::Choice::if_b))]
 pub fn goal_by(g: u32) -> Goal
     ensures { result ≡ goal_by g }
 {
@@ -222,6 +224,7 @@ pub fn goal_by(g: u32) -> Goal
     }
 }
 
+#[tactic(auto, unfolding(crate::specs::Code::put_by, machine::specs::Choice::if_b))]
 fn put_by(w: &[u32], k: u32) -> PutStage
     requires { 15 ≤ length w.now }
     ensures { result ≡ put_by w.now k }
@@ -235,6 +238,7 @@ fn put_by(w: &[u32], k: u32) -> PutStage
     }
 }
 
+#[tactic(auto, unfolding(crate::specs::Code::take_by, machine::specs::Choice::if_b))]
 fn take_by(w: &[u32], k: u32) -> TakeStage
     requires { 15 ≤ length w.now }
     ensures { result ≡ take_by w.now k }
@@ -252,6 +256,7 @@ fn take_by(w: &[u32], k: u32) -> TakeStage
     }
 }
 
+#[tactic(auto, unfolding(crate::specs::Code::settle_by, machine::specs::Choice::if_b))]
 fn settle_by(w: &[u32], k: u32) -> SettleStage
     requires { 15 ≤ length w.now }
     ensures { result ≡ settle_by w.now k }
@@ -269,6 +274,7 @@ fn settle_by(w: &[u32], k: u32) -> SettleStage
     }
 }
 
+#[tactic(auto, unfolding(crate::specs::Code::phase_by, machine::specs::Choice::if_b))]
 fn phase_by(w: &[u32], f: u32) -> Phase
     requires { 15 ≤ length w.now }
     ensures { result ≡ phase_by w.now f }
@@ -284,6 +290,7 @@ fn phase_by(w: &[u32], f: u32) -> Phase
 }
 
 // What the first 15 numbers read as, whether they are a task's or not.
+#[tactic(auto, unfolding(crate::specs::Code::task_by, machine::specs::Choice::if_b))]
 fn task_by(w: &[u32]) -> Task
     requires { 15 ≤ length w.now }
     ensures { result ≡ task_by w.now }
@@ -329,6 +336,7 @@ fn no_state() -> GotState
 }
 
 // Whether all places from one on are 0.
+#[tactic(auto, unfolding(crate::specs::Own::clear_from))]
 fn clear_1(w: &[u32]) -> bool
     requires { 15 ≤ length w.now }
     ensures { result ≡ clear_from 1 14 w.now }
@@ -349,6 +357,7 @@ fn clear_1(w: &[u32]) -> bool
         & (0 == w[14])
 }
 
+#[tactic(auto, unfolding(crate::specs::Own::clear_from))]
 fn clear_4(w: &[u32]) -> bool
     requires { 15 ≤ length w.now }
     ensures { result ≡ clear_from 4 11 w.now }
@@ -366,6 +375,7 @@ fn clear_4(w: &[u32]) -> bool
         & (0 == w[14])
 }
 
+#[tactic(auto, unfolding(crate::specs::Own::clear_from))]
 fn clear_7(w: &[u32]) -> bool
     requires { 15 ≤ length w.now }
     ensures { result ≡ clear_from 7 8 w.now }
@@ -380,6 +390,7 @@ fn clear_7(w: &[u32]) -> bool
         & (0 == w[14])
 }
 
+#[tactic(auto, unfolding(crate::specs::Own::clear_from))]
 fn clear_9(w: &[u32]) -> bool
     requires { 15 ≤ length w.now }
     ensures { result ≡ clear_from 9 6 w.now }
@@ -387,6 +398,7 @@ fn clear_9(w: &[u32]) -> bool
     (0 == w[9]) & (0 == w[10]) & (0 == w[11]) & (0 == w[12]) & (0 == w[13]) & (0 == w[14])
 }
 
+#[tactic(auto, unfolding(crate::specs::Own::clear_from))]
 fn clear_11(w: &[u32]) -> bool
     requires { 15 ≤ length w.now }
     ensures { result ≡ clear_from 11 4 w.now }
@@ -394,6 +406,7 @@ fn clear_11(w: &[u32]) -> bool
     (0 == w[11]) & (0 == w[12]) & (0 == w[13]) & (0 == w[14])
 }
 
+#[tactic(auto, unfolding(crate::specs::Own::clear_from))]
 fn clear_13(w: &[u32]) -> bool
     requires { 15 ≤ length w.now }
     ensures { result ≡ clear_from 13 2 w.now }
@@ -402,6 +415,7 @@ fn clear_13(w: &[u32]) -> bool
 }
 
 // Whether this is a goal's number.
+#[tactic(auto, unfolding(crate::specs::Own::own_goal))]
 fn own_goal(k: u32) -> bool
     ensures { result ≡ own_goal k }
 {
@@ -409,6 +423,7 @@ fn own_goal(k: u32) -> bool
 }
 
 // With k records read of two: whether the places behind their links are 0.
+#[tactic(auto, unfolding(crate::specs::Own::own_two, machine::specs::Choice::if_b))]
 fn own_two(w: &[u32], k: u32) -> bool
     requires { 15 ≤ length w.now }
     ensures { result ≡ own_two k w.now }
@@ -422,6 +437,7 @@ fn own_two(w: &[u32], k: u32) -> bool
 }
 
 // The same of four.
+#[tactic(auto, unfolding(crate::specs::Own::own_four, machine::specs::Choice::if_b))]
 fn own_four(w: &[u32], k: u32) -> bool
     requires { 15 ≤ length w.now }
     ensures { result ≡ own_four k w.now }
@@ -436,6 +452,7 @@ fn own_four(w: &[u32], k: u32) -> bool
 }
 
 // Whether the numbers of a task fit its phase f and its goal or count k.
+#[tactic(auto, unfolding(crate::specs::Own::own_by, machine::specs::Choice::if_b))]
 fn own_by(w: &[u32], f: u32, k: u32) -> bool
     requires { 15 ≤ length w.now }
     ensures { result ≡ own_by f k w.now }
@@ -490,6 +507,7 @@ pub fn read_state(w: &[u32]) -> GotState
 }
 
 // Task i of a state.
+#[tactic(auto, using(crate::proofs::Own::part_task))]
 pub fn task_at(w: &[u32], i: usize) -> Task
     requires { (length w.now ≡ 122) × (i < 8) }
     ensures { result ≡ task_at (state_by w.now) i }
@@ -498,6 +516,7 @@ pub fn task_at(w: &[u32], i: usize) -> Task
 }
 
 // Whether the task of the first 15 numbers settles.
+#[tactic(auto, unfolding(crate::specs::Code::task_by, crate::specs::Code::phase_by, machine::specs::Choice::if_b))]
 fn settles_by(w: &[u32]) -> bool
     requires { 15 ≤ length w.now }
     ensures { result ≡ work_settles (task_by w.now).work }
@@ -589,6 +608,7 @@ pub fn walker_at(w: &[u32], i: usize) -> Walker
 }
 
 // The first seven numbers of task i are written.
+#[tactic(auto, unfolding(crate::specs::Walking::put_first))]
 pub fn put_first(w: &mut [u32], i: usize, f: u32, j: Job, k: u32, q: Path)
     requires { (length w.old ≡ 122) × (i < 8) }
     ensures { w.new ≡ put_first w.old (15 * i) f j k q }

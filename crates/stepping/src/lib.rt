@@ -14,7 +14,7 @@ use terms::{Answer, Job, Out, Outcome, Phase, State, Work};
 use walk::{calm_turn, walk_from, walk_on};
 
 // The step of a task by its phase; m put-ins are committed.
-#[tactic(auto, unfolding(machine::specs::Contract::acted, machine::specs::Contract::played, machine::specs::Step::phase_step, machine::specs::Choice::if_b))]
+#[tactic(auto, unfolding(machine::specs::Contract::acted, machine::specs::Contract::played, machine::specs::Step::phase_step, machine::specs::Choice::if_b, machine::specs::Table::puts))]
 pub fn phase_step(t: &mut [u32], n: u32, m: u32, j: Job, f: Phase) -> Outcome
     requires { Sized t.old n }
     ensures { acted t.new result ≡ played t.old (phase_step (view n t.old) n m j f) }

@@ -6,13 +6,10 @@ use mathlib.Core.Bool.{Bool, not, true}
 use mathlib.Core.Logic.{inl, inr}
 use mathlib.Core.Path.{◌∙◌, ◌≡◌, refl, sym}
 use native.Mathlib.Omega.{arith}
-use Rattle.commits.proofs.Commits.{small}
-use Rattle.commits.proofs.Grounds.{above}
 use Rattle.commits.proofs.Shape.{Shape}
 use Rattle.machine.proofs.Choice.{if_elim}
 use Rattle.machine.proofs.Tests.{both_first, both-second}
 use Rattle.machine.specs.Commit.{Did, calm}
-use Rattle.machine.specs.Reach.{levels}
 use Rattle.machine.specs.Record.{leads, level, linked, links_of, other, still, well_formed}
 use Rattle.machine.specs.Rows.{around_of, double_writes, link_at, rotate_writes}
 use Rattle.machine.specs.Settling.{choose_by, choose_formed, choose_step, commit_four, commit_three, commit_two, double_by, double_do, double_first, double_step, double_turn, grounds_four, grounds_three, grounds_two, promote_by, promote_do, read_grand, read_on, read_parent, rotate_by, rotate_do, rotate_first, rotate_on, rotate_step, rotate_turn, rotate_two_do, settle_step, test_four, test_three, test_two, turn_formed}

@@ -10,7 +10,7 @@ use Rattle.machine.specs.Commit.{reading}
 use Rattle.machine.specs.Record.{is_leaf, level, linked, links_of}
 use Rattle.machine.specs.Table.{View}
 use Rattle.machine.specs.Walk.{arrival, at_leaf, serve_arrival, settle_arrival, sought, walk_from, walk_on, walk_to}
-use Rattle.routes.specs.Route.{here, lv, next}
+use Rattle.routes.specs.Route.{lv, next}
 use Rattle.steps.proofs.Facts.{formed-used, leaf_links, linked-formed, not_level}
 use Rattle.steps.proofs.Trails.{entry-fine, fine-used, next-sought, step-fine}
 use Rattle.steps.specs.Does.{Moves, Quiet, hurts, moves-on, settled, standing, stops, walks}
@@ -31,7 +31,7 @@ use Rattle.terms.specs.declared.SettleStage.TheVariants.{SettleGrand}
 use Rattle.terms.specs.declared.TakeStage.TheVariants.{TakeGrand}
 use Rattle.terms.specs.declared.Turn.TheVariants.{Next}
 use Rattle.trees.proofs.Held.{Carries}
-use Rattle.trees.specs.Tree.{Tree, parent}
+use Rattle.trees.specs.Tree.{Tree}
 use Rattle.views.specs.Update.{link}
 
 -- the record that a walk leaves: slot s, above it `grand`; `f` is the task's phase

@@ -1,7 +1,6 @@
 -- WHAT A STEP DOES, once for all theorems: its task moves on and nothing is written, or it commits.
 use Rattle.std.specs.Prelude.{◌<◌, ℕ, Bool, false, true, List, ◌⊎◌, ◌≡◌}
 use Rattle.commits.proofs.Acts.{settles, takes_out}
-use Rattle.commits.proofs.Forms.{turn}
 use Rattle.commits.proofs.Sight.{Changed, PutChanged}
 use Rattle.machine.specs.Answers.{number_of}
 use Rattle.machine.specs.Choice.{if_b}

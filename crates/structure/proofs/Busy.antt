@@ -4,7 +4,6 @@ use mathlib.Core.Bool.{Bool, true}
 use mathlib.Core.List.{List, [], ◌∷◌}
 use mathlib.Core.Path.{◌∙◌, ◌≡◌, ap, subst, sym}
 use native.Mathlib.Omega.{arith}
-use Rattle.commits.proofs.Sight.{split}
 use Rattle.demand2.proofs.Seen.{all_idle}
 use Rattle.demand2.proofs.Carried.{goes-both}
 use Rattle.demand2.proofs.Counts.{all_alike}
@@ -17,7 +16,6 @@ use Rattle.history.specs.History.{Ask, abandon, begin, figures, list, reset, ste
 use Rattle.history.specs.Ledger.{Account, Point, advance, goes}
 use Rattle.history.specs.Machine.{real}
 use Rattle.machine.specs.Answers.{number_of}
-use Rattle.machine.specs.Contract.{after}
 use Rattle.machine.specs.Record.{links_of}
 use Rattle.machine.specs.State.{task_at}
 use Rattle.machine.specs.Step.{Left}
@@ -75,7 +73,8 @@ module _ {p : Point} (s : Stands p) (i : ℕ) where
 
 pub busy-none_frees : {p : Point} (s : Stands p) (i : ℕ) (cs : List Ask) → Always (BusyAt i) p cs → NoneFrees p cs
 busy-none_frees s i [] h = tt
-busy-none_frees s i (c ∷ cs) h = (none-frees s i c h.0 (always-head (BusyAt i) _ cs h.1), busy-none_frees (keeps s c) i cs h.1)
+busy-none_frees {p} s i (c ∷ cs) h =
+    (none-frees s i c h.0 (always-head (BusyAt i) _ cs h.1), busy-none_frees {p = advance real p c} (keeps s c) i cs h.1)
 
 -- ---- the record at every moment between
 
@@ -83,9 +82,9 @@ module _ (u : View) (x : ℕ) (one : (u x).state ≡ 1) (in_use : (side : Bool) 
   pub always-same : {q : Point} (s : Stands q) (cs : List Ask) → Grows u (view_of q) → NoneFrees q cs → AsNoted (view_of (goes real q cs) x) (links_of (u x)) → Always (λ y. view_of y x ≡ u x) q cs
   unfolding goes
   always-same s [] g f still = never-changed g (grows_same _) x one in_use still
-  always-same s (c ∷ cs) g f still = (
+  always-same {q} s (c ∷ cs) g f still = (
     never-changed g (grows_then (one-call_at s c f.0).grows (grows-over (keeps s c) cs f.1)) x one in_use still,
-    always-same (keeps s c) cs (grows_then g (one-call_at s c f.0).grows) f.1 still,
+    always-same {q = advance real q c} (keeps s c) cs (grows_then g (one-call_at s c f.0).grows) f.1 still,
   )
 
 -- while some task is busy: a record of the tree that is found in state 1 with both links as they were has been the same all the time

@@ -15,7 +15,7 @@ use Rattle.demand2.proofs.Passes.{Passes, abandons, begins, looks, passing, refu
 use Rattle.demand2.proofs.Stands.{Stands, fits-is, slots-is, sound-is}
 use Rattle.fares.proofs.Tidied.{swept}
 use Rattle.grounds.specs.Ways.{link_on}
-use Rattle.history.specs.History.{Ask, figures, left, list, reset, tidy}
+use Rattle.history.specs.History.{Ask, abandon, begin, figures, left, list, reset, step, tidy}
 use Rattle.history.specs.Ledger.{Account, Point, advance}
 use Rattle.history.specs.Machine.{real}
 use Rattle.machine.specs.Answers.{number_of}
@@ -142,6 +142,11 @@ module _ {p : Point} (s : Stands p) where
   tidied-passes (refused y h) c e = absurd (omega (arith, ap number_of e))
   tidied-passes (looks {c = figures} y h) c e = absurd (let z : ◌≡◌ {A = ℕ} 0 1 = cc in omega arith)
   tidied-passes (looks {c = list room} y h) c e = absurd (let z : ◌≡◌ {A = ℕ} 0 1 = cc in omega arith)
+  tidied-passes {c = reset} (looks y h) c e = elim h [ ]
+  tidied-passes {c = begin _ _ _} (looks y h) c e = elim h [ ]
+  tidied-passes {c = step _} (looks y h) c e = elim h [ ]
+  tidied-passes {c = abandon _} (looks y h) c e = elim h [ ]
+  tidied-passes {c = tidy} (looks y h) c e = elim h [ ]
   tidied-passes resets c e = absurd (let z : ◌≡◌ {A = ℕ} 0 1 = cc in omega arith)
   tidied-passes (begins i o j lt idle f) c e = absurd (let z : ◌≡◌ {A = ℕ} 0 1 = cc in omega arith)
   tidied-passes (steps i j f d lt at q h does b) c e = absurd (let z : ◌≡◌ {A = ℕ} 0 1 = cc in omega arith)
@@ -159,6 +164,11 @@ module _ {p : Point} (s : Stands p) where
   only_idle (refused y h) c e = absurd (omega (arith, ap number_of e))
   only_idle (looks {c = figures} y h) c e = absurd (let z : ◌≡◌ {A = ℕ} 0 1 = cc in omega arith)
   only_idle (looks {c = list room} y h) c e = absurd (let z : ◌≡◌ {A = ℕ} 0 1 = cc in omega arith)
+  only_idle {c = reset} (looks y h) c e = elim h [ ]
+  only_idle {c = begin _ _ _} (looks y h) c e = elim h [ ]
+  only_idle {c = step _} (looks y h) c e = elim h [ ]
+  only_idle {c = abandon _} (looks y h) c e = elim h [ ]
+  only_idle {c = tidy} (looks y h) c e = elim h [ ]
   only_idle resets c e = absurd (let z : ◌≡◌ {A = ℕ} 0 1 = cc in omega arith)
   only_idle (begins i o j lt idle f) c e = absurd (let z : ◌≡◌ {A = ℕ} 0 1 = cc in omega arith)
   only_idle (steps i j f d lt at q h does b) c e = absurd (let z : ◌≡◌ {A = ℕ} 0 1 = cc in omega arith)

@@ -10,7 +10,7 @@ use Rattle.demand2.proofs.Stands.{Stands}
 use Rattle.grounds.specs.Record.{AsNoted}
 use Rattle.grounds.specs.Ways.{Goes, Way, link_on}
 use Rattle.history.specs.History.{Ask}
-use Rattle.history.specs.Ledger.{Point, goes}
+use Rattle.history.specs.Ledger.{Point, advance, goes}
 use Rattle.history.specs.Machine.{real}
 use Rattle.machine.specs.Record.{links_of}
 use Rattle.machine.specs.Table.{View}
@@ -65,7 +65,7 @@ module _ {u v w : View} (g : Grows u v) (h : Grows v w) where
 pub grows-over : {p : Point} (s : Stands p) (cs : List Ask) → NoneFrees p cs → Grows (view_of p) (view_of (goes real p cs))
 unfolding goes
 grows-over {p} s [] f = grows_same (view_of p)
-grows-over {p} s (c ∷ cs) f = grows_then (one-call_at s c f.0).grows (grows-over (keeps s c) cs f.1)
+grows-over {p} s (c ∷ cs) f = grows_then (one-call_at s c f.0).grows (grows-over {p = advance real p c} (keeps s c) cs f.1)
 
 -- ---- a record that is found as it was noted was never changed between
 

@@ -45,7 +45,7 @@ use Rattle.trees.specs.Count.{size}
 goes-long : {p : Point} (s : Stands p) (cs : List Ask) → length (goes real p cs).table ≡ length p.table
 unfolding goes advance
 goes-long s [] = refl
-goes-long {p} s (c ∷ cs) = goes-long (keeps s c) cs ∙ after-long s (passing s c).passes ∙ sym s.size
+goes-long {p} s (c ∷ cs) = goes-long {p = advance real p c} (keeps s c) cs ∙ after-long s (passing s c).passes ∙ sym s.size
 
 undamaged : (n : ℕ) (v : View) → Built n v → ReachDamaged v n → ⊥
 undamaged n v b (not-well-formed w x g d) = d (b.formed w x g)

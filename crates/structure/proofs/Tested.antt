@@ -32,6 +32,7 @@ use Rattle.views.specs.Update.{Within, upd, upds}
 all_noted : (v : View) (r : Note) (rs : List Note) → AllAsNoted v rs → OneOf r rs → AsNoted (v r.slot) r.links
 all_noted v r (x ∷ rs) h (inl e) = subst (λ y. AsNoted (v y.slot) y.links) (sym e) h.0
 all_noted v r (x ∷ rs) h (inr o) = all_noted v r rs h.1 o
+all_noted v r [] h e = elim e [ ]
 
 module _ {p : Point} (s : Stands p) (i : ℕ) where
   by_sees : (i' : ℕ) (j : Job) (f : Phase) (d : Did) → i' ≡ i → (task_at p.state i').work ≡ Busy j f → Sees (view_at s) j f d → (puts p.table d.writes ≡ p.table → ⊥)
@@ -84,6 +85,7 @@ covered_or_same u v rs x used (off y ∷ ws) c =
 slot_note : (x : ℕ) (rs : List Note) → SlotOf x rs → (r : Note) × OneOf r rs × (r.slot ≡ x)
 slot_note x (r ∷ rs) (inl e) = (r, inl refl, sym e)
 slot_note x (r ∷ rs) (inr o) = let h = slot_note x rs o in (h.0, inr h.1, h.2)
+slot_note x [] h = elim h [ ]
 
 module _ {p : Point} (s : Stands p) (i x : ℕ) where
   abbrev Read : Type 0

@@ -62,6 +62,7 @@ fn take_test(a: Links, b: Links, c: Links, d: Links, g: Rec, p: Rec, l: Rec, r: 
 }
 
 // The five writes of a take-out: s is the sibling's record, x the slot of its copy.
+#[tactic(auto, unfolding(machine::specs::Table::puts))]
 fn take_writes(t: &mut [u32], n: u32, q: Path, left: bool, s: Rec, sibling: u32, x: u32)
     requires { Sized t.old n × (x < n) × (sibling < n) × (q.here < n) × (q.parent < n) × (q.grand < n) }
     ensures { t.new ≡ puts t.old (take_writes q left s sibling x) }
@@ -74,7 +75,7 @@ fn take_writes(t: &mut [u32], n: u32, q: Path, left: bool, s: Rec, sibling: u32,
 }
 
 // Room, and the writes.
-#[tactic(auto, unfolding(machine::specs::Contract::acted, machine::specs::Contract::played, machine::specs::TakeOut::take_room, machine::specs::Choice::if_b))]
+#[tactic(auto, unfolding(machine::specs::Contract::acted, machine::specs::Contract::played, machine::specs::TakeOut::take_room, machine::specs::Choice::if_b, machine::specs::Table::puts))]
 fn take_room(t: &mut [u32], n: u32, q: Path, left: bool, s: Rec, sibling: u32) -> Outcome
     requires { Sized t.old n × (sibling < n) × (q.here < n) × (q.parent < n) × (q.grand < n) }
     ensures { acted t.new result ≡ played t.old (take_room (view n t.old) n q left s sibling) }
@@ -91,7 +92,7 @@ fn take_room(t: &mut [u32], n: u32, q: Path, left: bool, s: Rec, sibling: u32) -
 }
 
 // The commit of a take-out.
-#[tactic(auto, unfolding(machine::specs::Contract::acted, machine::specs::Contract::played, machine::specs::TakeOut::take_commit, machine::specs::Choice::if_b))]
+#[tactic(auto, unfolding(machine::specs::Contract::acted, machine::specs::Contract::played, machine::specs::TakeOut::take_commit, machine::specs::Choice::if_b, machine::specs::Table::puts, machine::specs::Commit::commit_if))]
 fn take_commit(
     t: &mut [u32],
     n: u32,
@@ -171,7 +172,7 @@ fn read_take_right(n: u32, j: Job, q: Path, a: Links, b: Links, c: Links, r: Rec
 }
 
 // A step of a take-out that has walked.
-#[tactic(auto, unfolding(machine::specs::Contract::acted, machine::specs::Contract::played, machine::specs::TakeOut::take_step, machine::specs::Choice::if_b))]
+#[tactic(auto, unfolding(machine::specs::Contract::acted, machine::specs::Contract::played, machine::specs::TakeOut::take_step, machine::specs::Choice::if_b, machine::specs::Table::puts))]
 pub fn take_step(t: &mut [u32], n: u32, j: Job, q: Path, s: TakeStage) -> Outcome
     requires { Sized t.old n }
     ensures { acted t.new result ≡ played t.old (take_step (view n t.old) n j q s) }

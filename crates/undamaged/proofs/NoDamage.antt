@@ -66,7 +66,7 @@ hale-on {p} h c =
 hale-all : {p : Point} → Hale p → (cs : List Ask) → Hale (goes real p cs)
 unfolding goes
 hale-all h [] = h
-hale-all h (c ∷ cs) = hale-all (hale-on h c) cs
+hale-all {p} h (c ∷ cs) = hale-all {p = advance real p c} (hale-on h c) cs
 
 hale-fresh : (l n : ℕ) → l ≡ n * 6 → 8 ≤ n → n ≤ 4096 → Hale (record { table = empty_table l; state = fresh_state; account = opening })
 hale-fresh l n six least most =

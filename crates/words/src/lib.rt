@@ -10,6 +10,7 @@ pub fn wide(x: u8) -> u32
 }
 
 // Two bytes, low byte first.
+#[tactic(auto, unfolding(machine::specs::CallFile::two))]
 pub fn two_at(b: &[u8], i: usize) -> u32
     requires { (i + 2 ≤ length b.now) × (i < 1000000) }
     ensures { (result ≡ two b.now i) × (result < 65536) }
@@ -18,6 +19,7 @@ pub fn two_at(b: &[u8], i: usize) -> u32
 }
 
 // Four bytes, low byte first.
+#[tactic(auto, unfolding(machine::specs::CallFile::four))]
 pub fn four_at(b: &[u8], i: usize) -> u32
     requires { (i + 4 ≤ length b.now) × (i < 1000000) }
     ensures { result ≡ four b.now i }

@@ -1,0 +1,6 @@
+use Rattle.std.proofs.Common.{◌∙◌}
+use Rattle.statecode.proofs.Rule.{row-rule}
+use Rattle.statecode.proofs.own_row.Goals as goal
+
+pub returns : goal.returns
+returns c = c.own_by.ensures ∙ row-rule c.args.w.now c.requires
