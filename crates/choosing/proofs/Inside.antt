@@ -1,16 +1,16 @@
 -- What a settling step has found well formed stands in the table, and its ranks are small.
-use mathlib.Core.Path.{◌≡◌, refl}
-use mathlib.Core.Bool.{Bool, true, false, ◌&&◌, ◌||◌, not}
+use mathlib.Core.Path.{◌≡◌}
+use mathlib.Core.Bool.{Bool, true, ◌&&◌, ◌||◌, not}
 use mathlib.Core.List.{List}
 use Prim.Native.Nat.{ℕ, ◌≤◌, ◌<◌}
 use native.Mathlib.Omega.{arith}
 use lib.Dec.{leb, eqb}
-use borrow.Author.Tests.{leb-true, eqb-true, not-false}
+use borrow.Author.Tests.{leb-true, eqb-true}
 use Rattle.terms.specs.declared.Rec.{Rec}
 use Rattle.terms.specs.declared.Links.{Links}
 use Rattle.terms.specs.declared.Path.{Path}
 use Rattle.terms.specs.declared.Around.{Around}
-use Rattle.machine.specs.Record.{sentinel, number_fits, price_fits, fare_marks, inner_marks, is_leaf, is_inner, plain_form, entry_form, well_formed, linked, other}
+use Rattle.machine.specs.Record.{sentinel, number_fits, price_fits, fare_marks, inner_marks, is_leaf, is_inner, plain_form, entry_form, well_formed, linked}
 use Rattle.machine.specs.Table.{view}
 use Rattle.machine.specs.Rows.{around_of}
 use Rattle.machine.specs.Settling.{grounds_two, grounds_three, grounds_four, choose_formed, turn_formed}
@@ -49,9 +49,9 @@ formed-rank n s r e =
     (both-second (eqb r.state 1 || eqb r.state 2) _ e)
 
 -- a step that chooses has z and x in the table
-module _ (n : ℕ) (t : List ℕ) (q : Path) (b : Links) (z x s : Rec) (g : Bool) (eg : g ≡ choose_formed n q b z x s) (e : not g ≡ false) where
+module _ (n : ℕ) (t : List ℕ) (q : Path) (b : Links) (z x s : Rec) (g : Bool) (eg : g ≡ choose_formed n q b z x s) (e : g ≡ true) where
   chosen : choose_formed n q b z x s ≡ true
-  chosen = rw eg at (not-false g e)
+  chosen = rw eg at e
 
   pub z_in : z ≡ view n t q.parent → q.parent < n
   unfolding choose_formed
@@ -64,10 +64,10 @@ module _ (n : ℕ) (t : List ℕ) (q : Path) (b : Links) (z x s : Rec) (g : Bool
       (rw ex at (both_first (linked n q.here x) _ (both-second (well_formed n q.parent z) _ chosen)))
 
 -- a rotation has y in the table
-module _ (n : ℕ) (o : Around) (y w : Rec) (g : Bool) (eg : g ≡ turn_formed n o y w) (e : not g ≡ false) where
+module _ (n : ℕ) (o : Around) (y w : Rec) (g : Bool) (eg : g ≡ turn_formed n o y w) (e : g ≡ true) where
   y_linked : linked n o.y y ≡ true
   unfolding turn_formed
-  y_linked = both_first (linked n o.y y) _ (rw eg at (not-false g e))
+  y_linked = both_first (linked n o.y y) _ (rw eg at e)
 
   y_in : (t : List ℕ) → y ≡ view n t o.y → o.y < n
   y_in t ey = linked-in n t o.y (rw ey at y_linked)
@@ -81,7 +81,7 @@ module _ (n : ℕ) (o : Around) (y w : Rec) (g : Bool) (eg : g ≡ turn_formed n
   y_rank = let h = formed-rank n o.y y (both-second (not (eqb o.y 0)) _ y_linked) in omega arith
 
 -- a commit that passes its grounds has pz in the table
-module _ (n : ℕ) (t : List ℕ) (q : Path) (a b : Links) (pz z x : Rec) (ep : pz ≡ view n t q.grand) (g : Bool) (e : not g ≡ false) where
+module _ (n : ℕ) (t : List ℕ) (q : Path) (a b : Links) (pz z x : Rec) (ep : pz ≡ view n t q.grand) (g : Bool) (e : g ≡ true) where
   from-two : grounds_two n q a b pz z x ≡ true → q.grand < n
   unfolding grounds_two
   from-two h = formed-in n t q.grand (rw ep at (both_first (well_formed n q.grand pz) _ h))
@@ -91,11 +91,11 @@ module _ (n : ℕ) (t : List ℕ) (q : Path) (a b : Links) (pz z x : Rec) (ep : 
   from-three h = from-two (both_first (grounds_two n q a b pz z x) _ h)
 
   pub pz_in_two : g ≡ grounds_two n q a b pz z x → q.grand < n
-  pz_in_two eg = from-two (rw eg at (not-false g e))
+  pz_in_two eg = from-two (rw eg at e)
 
   pub pz_in_three : g ≡ grounds_three n q a b pz z x → q.grand < n
-  pz_in_three eg = from-three (rw eg at (not-false g e))
+  pz_in_three eg = from-three (rw eg at e)
 
   pub pz_in_four : (i : ℕ) (y : Rec) → g ≡ grounds_four n q a b i pz z x y → q.grand < n
   unfolding grounds_four
-  pz_in_four i y eg = from-three (both_first (grounds_three n q a b pz z x) _ (rw eg at (not-false g e)))
+  pz_in_four i y eg = from-three (both_first (grounds_three n q a b pz z x) _ (rw eg at e))

@@ -1,5 +1,6 @@
 // Settling: each step chooses by the links noted so far.
 #![tactic(auto)]
+
 ghost use Rattle.std.specs.Prelude.{◌≡◌, ◌+◌, ◌-◌, ◌*◌, ◌≤◌, ◌<◌};
 ghost use Rattle.machine.specs.Contract.{Sized, acted, played};
 ghost use Rattle.machine.specs.Table.{view};
@@ -32,7 +33,7 @@ fn turn_formed(n: u32, o: Around, y: Rec, w: Rec) -> bool
 }
 
 // pz and z noted: promote, or read x.
-#[tactic(auto, unfolding(machine::specs::Contract::acted, machine::specs::Contract::played, machine::specs::Settling::choose_by, machine::specs::Choice::if_b, machine::specs::Table::puts))]
+#[tactic(auto, unfolding(machine::specs::Contract::acted, machine::specs::Contract::played, machine::specs::Table::puts, machine::specs::Choice::if_b, machine::specs::Settling::choose_by, machine::specs::Settling::commit_two, machine::specs::Commit::commit_if))]
 fn choose_by(
     t: &mut [u32],
     n: u32,
@@ -82,7 +83,7 @@ fn choose_step(
 }
 
 // x noted too: rotate, or read y.
-#[tactic(auto, unfolding(machine::specs::Contract::acted, machine::specs::Contract::played, machine::specs::Settling::rotate_on, machine::specs::Choice::if_b, machine::specs::Table::puts))]
+#[tactic(auto, unfolding(machine::specs::Contract::acted, machine::specs::Contract::played, machine::specs::Table::puts, machine::specs::Choice::if_b, machine::specs::Settling::rotate_on, machine::specs::Settling::commit_three, machine::specs::Commit::commit_if))]
 fn rotate_on(
     t: &mut [u32],
     n: u32,
@@ -223,7 +224,7 @@ fn rotate_step(
 }
 
 // y noted too: the commit, by the ranks found now.
-#[tactic(auto, unfolding(machine::specs::Contract::acted, machine::specs::Contract::played, machine::specs::Settling::double_turn, machine::specs::Choice::if_b, machine::specs::Table::puts))]
+#[tactic(auto, unfolding(machine::specs::Contract::acted, machine::specs::Contract::played, machine::specs::Table::puts, machine::specs::Choice::if_b, machine::specs::Settling::double_turn, machine::specs::Settling::commit_four, machine::specs::Commit::commit_if))]
 fn double_turn(
     t: &mut [u32],
     n: u32,

@@ -1,5 +1,6 @@
 // Put-in: its two readings and its commit.
 #![tactic(auto)]
+
 ghost use Rattle.std.specs.Prelude.{◌≡◌, [], ◌∷◌, ◌+◌, ◌-◌, ◌*◌, ◌≤◌, ◌<◌};
 ghost use Rattle.machine.specs.Contract.{Sized, acted, played};
 ghost use Rattle.machine.specs.Table.{view, puts};

@@ -1,5 +1,6 @@
 // Take-out: its four readings and its commit.
 #![tactic(auto)]
+
 ghost use Rattle.std.specs.Prelude.{◌≡◌, [], ◌∷◌, ◌+◌, ◌-◌, ◌*◌, ◌≤◌, ◌<◌, eqb};
 ghost use Rattle.machine.specs.Choice.{if_b};
 ghost use Rattle.machine.specs.Contract.{Sized, acted, played};
