@@ -5,7 +5,6 @@ use mathlib.Core.List.{List}
 use Prim.Native.Nat.{ℕ, ◌-◌, ◌<◌}
 use native.Mathlib.Omega.{arith}
 use lib.ListN.{length, get_or, set, replicate, length-set, length-replicate, get_or-replicate}
-use borrow.Author.Tests.{not-false}
 use Rattle.terms.specs.declared.Rec.{Rec}
 use Rattle.machine.specs.Choice.{if_b}
 use Rattle.machine.specs.Record.{well_formed, in_tree}
@@ -20,13 +19,13 @@ module _
     (n : ℕ) (t marks : List ℕ) (em : marks ≡ replicate n 0) (e : Rec) (ee : e ≡ view n t 0)
     (f : Bool) (ef : f ≡ well_formed n 0 e) (i : Bool) (ei : i ≡ in_tree e)
   where
-    pub entry-hurt : not (f && i) ≡ true → (x : Below) → x ≡ lost_below n → All (view n t) n x marks
+    pub entry-hurt : (f && i) ≡ false → (x : Below) → x ≡ lost_below n → All (view n t) n x marks
     unfolding lost_below reach if_b
     entry-hurt h x ex = rw ex record { fares = omega arith; same = simp (← ee, ← ef, ← ei, h) }
 
-    module _ (h : not (f && i) ≡ false) where
+    module _ (h : (f && i) ≡ true) where
       pub entry_in : 0 < n
-      entry_in = formed-in n t 0 (rw (← ee) (sym ef ∙ both_first f i (not-false (f && i) h)))
+      entry_in = formed-in n t 0 (rw (← ee) (sym ef ∙ both_first f i h))
 
       pub entry-slot : 0 < length marks
       entry-slot = rw (em, length-replicate {A = ℕ} n 0) entry_in

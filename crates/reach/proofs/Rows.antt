@@ -7,7 +7,6 @@ use native.Mathlib.Omega.{arith}
 use native.Mathlib.Nat.{le_refl}
 use lib.Dec.{eqb}
 use lib.ListN.{length, get_or, set}
-use borrow.Author.Tests.{not-true, not-false}
 use Rattle.terms.specs.declared.Rec.{Rec}
 use Rattle.machine.specs.Record.{is_leaf, linked, in_tree, level, is_fare}
 use Rattle.machine.specs.Table.{view}
@@ -26,7 +25,7 @@ module _
     unfolding reachable
     reach-is = rw (← er) (sym eok)
 
-    pub no_way : not ok ≡ true → (x : Below) → x ≡ lost_below left → Down (view n t) n p s marks left x marks
+    pub no_way : ok ≡ false → (x : Below) → x ≡ lost_below left → Down (view n t) n p s marks left x marks
     unfolding lost_below
     no_way f x e =
         rw e
@@ -36,12 +35,12 @@ module _
           level = omega arith;
           fares = omega arith;
           depth = omega arith;
-          same = λ g h. rw (reach-hurt n (view n t) marks s (reach-is ∙ not-true ok f) g) refl;
+          same = λ g h. rw (reach-hurt n (view n t) marks s (reach-is ∙ f) g) refl;
         }
 
-    module _ (ft : not ok ≡ false) where
+    module _ (ft : ok ≡ true) where
       reaches : reachable n (view n t) marks s ≡ true
-      reaches = reach-is ∙ not-false ok ft
+      reaches = reach-is ∙ ft
 
       -- the slot has a mark, and had none
       pub inside : s < length marks
@@ -81,7 +80,7 @@ module _
         inner : (g : ℕ) → reach_from (suc g) n (view n t) marks s ≡ join_left s r (reach_from g n (view n t) (set marks s 1) r.left) (λ m. reach_from g n (view n t) m r.right)
         inner g = rw er (reach-inner n (view n t) marks s reaches (rw (← er) (sym eb ∙ fb)) g)
 
-        pub left-lost : not a.fine ≡ true → Down (view n t) n p s marks left a ma
+        pub left-lost : a.fine ≡ false → Down (view n t) n p s marks left a ma
         left-lost f =
             record {
               rest = da.rest;
@@ -91,11 +90,11 @@ module _
               depth = omega arith;
               same =
                   gas (λ g. Tells p left a ma (reach_from g n (view n t) marks s))
-                  (λ g h. rw (inner g) (tells_left_lost p r s left (left - 1) a ma (reach_from g n (view n t) (set marks s 1) r.left) (λ m. reach_from g n (view n t) m r.right) (da.same g h) (not-true a.fine f)));
+                  (λ g h. rw (inner g) (tells_left_lost p r s left (left - 1) a ma (reach_from g n (view n t) (set marks s 1) r.left) (λ m. reach_from g n (view n t) m r.right) (da.same g h) f));
             }
 
-        module _ (fa : not a.fine ≡ false) (c : Below) (mc : List ℕ) (dc : Down (view n t) n r r.right ma a.left c mc) where
-          pub right_lost : not c.fine ≡ true → Down (view n t) n p s marks left c mc
+        module _ (fa : a.fine ≡ true) (c : Below) (mc : List ℕ) (dc : Down (view n t) n r r.right ma a.left c mc) where
+          pub right_lost : c.fine ≡ false → Down (view n t) n p s marks left c mc
           right_lost f =
               record {
                 rest = dc.rest;
@@ -107,10 +106,10 @@ module _
                     gas (λ g. Tells p left c mc (reach_from g n (view n t) marks s))
                     (λ g h.
                     rw (inner g)
-                    (tells_right_lost p r s left (left - 1) a ma c mc (reach_from g n (view n t) (set marks s 1) r.left) (λ m. reach_from g n (view n t) m r.right) (da.same g h) (not-false a.fine fa) (dc.same g (omega arith)) (not-true c.fine f)));
+                    (tells_right_lost p r s left (left - 1) a ma c mc (reach_from g n (view n t) (set marks s 1) r.left) (λ m. reach_from g n (view n t) m r.right) (da.same g h) fa (dc.same g (omega arith)) f));
               }
 
-          pub both-fine : not c.fine ≡ false → (x : Below) → x ≡ inner_below p r a c → Down (view n t) n p s marks left x mc
+          pub both-fine : c.fine ≡ true → (x : Below) → x ≡ inner_below p r a c → Down (view n t) n p s marks left x mc
           unfolding inner_below
           both-fine f x e =
               let l : left ≡ suc (left - 1) = omega (arith, one_less) in
@@ -126,5 +125,5 @@ module _
                     gas (λ g. Tells p left (inner_below p r a c) mc (reach_from g n (view n t) marks s))
                     (λ g h.
                     rw (inner g)
-                    (tells_inner p r s left (left - 1) a ma c mc (reach_from g n (view n t) (set marks s 1) r.left) (λ m. reach_from g n (view n t) m r.right) (da.same g h) (not-false a.fine fa) l (dc.same g (omega arith)) (not-false c.fine f)));
+                    (tells_inner p r s left (left - 1) a ma c mc (reach_from g n (view n t) (set marks s 1) r.left) (λ m. reach_from g n (view n t) m r.right) (da.same g h) fa l (dc.same g (omega arith)) f));
               }

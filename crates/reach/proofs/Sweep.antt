@@ -32,3 +32,5 @@ sweep-more t marks n s h later e =
 pub sweep-end : (t marks : List ℕ) (n s : ℕ) → s ≤ n → n ≤ s → puts t (sweep marks (n - s) s) ≡ t
 unfolding sweep puts
 sweep-end t marks n s h l = let z : n - s ≡ 0 = omega arith in rw z refl
+
+pub ruleset sweeping = (sweep-start, sweep-more, sweep-end)

@@ -181,7 +181,7 @@ fn sweep_slot(t: &mut [u32], n: u32, s: u32, mark: u8)
     );
 }
 
-#[tactic(auto, unfolding(machine::specs::Calls::sweep, machine::specs::Choice::if_b))]
+#[tactic(auto, using(crate::proofs::Sweep::sweeping))]
 pub fn sweep_all(t: &mut [u32], marks: &[u8], n: u32)
     requires { Sized t.old n × (length marks.now ≡ n) }
     ensures { t.new ≡ puts t.old (sweep marks.now n 0) }
@@ -214,7 +214,6 @@ fn write_line(room: &mut [u32], at: usize, r: Rec) -> usize
 }
 
 // The fares below slot s, from the leftmost to the rightmost; each record visited is one slot less.
-#[tactic(auto, unfolding(crate::specs::Tree::tree_from, machine::specs::Choice::if_b))]
 pub fn write_fares(t: &[u32], room: &mut [u32], n: u32, s: u32, at: usize, left: u32) -> Written
     requires { Sized t.now n × RoomFor (tree_from left (view n t.now) s) left at room.old }
     ensures { Wrote (tree_from left (view n t.now) s) left at room.old result room.new }

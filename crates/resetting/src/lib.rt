@@ -9,6 +9,7 @@ use state::fresh_state;
 use terms::{Answer, Out, Rec, State};
 
 // Every number of the table becomes 0.
+#[tactic(auto, using(crate::proofs::Clearing::clear_more, crate::proofs::Clearing::clear_done))]
 fn clear(t: &mut [u32])
     ensures { t.new ≡ replicate (length t.old) 0 }
 {
@@ -21,7 +22,7 @@ fn clear(t: &mut [u32])
 }
 
 // The entry and the first sentinel leaf, in an empty table.
-#[tactic(auto, unfolding(machine::specs::Calls::empty_table, machine::specs::Choice::if_b))]
+#[tactic(auto, unfolding(machine::specs::Calls::empty_table, machine::specs::Table::puts))]
 fn lay_out(t: &mut [u32], n: u32)
     requires { Sized t.old n × (8 ≤ n) }
     ensures { t.new ≡ empty_table (length t.old) }

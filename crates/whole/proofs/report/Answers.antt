@@ -1,0 +1,16 @@
+-- A sound state has small counts.
+use Rattle.std.proofs.Common.{arith}
+use Rattle.machine.specs.State.{count_open}
+use Rattle.whole.specs.Whole.{reported}
+use Rattle.whole.proofs.Front.{sound-limit, sound-open}
+use Rattle.whole.proofs.report.Goals as goal
+
+pub overflow_add-c : goal.overflow_add-c
+overflow_add-c c = omega (arith, sound-open c.args.st c.requires.1, sound-limit c.args.st c.requires.1, c.count_settling.ensures.0)
+
+pub allowed_rank-allowed-requires : goal.allowed_rank-allowed-requires
+allowed_rank-allowed-requires c = sound-limit c.args.st c.requires.1
+
+pub returns : goal.returns
+unfolding reported count_open
+returns c = simp (c.count_settling.ensures.0, c.count_free-free.ensures, c.allowed_rank-allowed.ensures)
