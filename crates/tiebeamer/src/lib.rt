@@ -149,6 +149,7 @@ fn step_work_by(t: &mut [u32], n: u32, w: &mut [u32], i: usize, k: Work) -> Answ
 }
 
 // The slot that a walker's next step leaves.
+#[tactic(auto, unfolding(crate::specs::Numbers::from_of, machine::specs::Choice::if_b))]
 fn from_of(k: Walker) -> u32
     ensures { result ≡ from_of k }
 {
@@ -159,6 +160,7 @@ fn from_of(k: Walker) -> u32
 }
 
 // The parent of that slot.
+#[tactic(auto, unfolding(crate::specs::Numbers::grand_of, machine::specs::Choice::if_b))]
 fn grand_of(k: Walker) -> u32
     ensures { result ≡ grand_of k }
 {
@@ -357,6 +359,7 @@ pub extern "C" fn tiebeamer_tidy(table: &mut [u32], state: &mut [u32]) -> u32
 }
 
 // The figures, in their order.
+#[tactic(auto, unfolding(machine::specs::CallFile::end_line))]
 fn put_figures(places: &mut [u32; 7], f: Figures)
     ensures { places.new ≡ end_line f }
 {
