@@ -9,10 +9,11 @@ returns-then-not-on c = (run_ends _ _ _ _ (out_by _ _) c.step_by-a.ensures.0 _ c
 
 pub loop-a-preserved : goal.loop-a-preserved
 loop-a-preserved c =
-    let m = run_more _ _ _ _ (out_by _ _) c.step_by-a.ensures.0 _ c.number_of.ensures _ c.loop-a.invariant.0 (ap not c.if-not-on.false) in
-    (omega arith,
-    omega arith,
-    c.loop-a.invariant.2 ∙ run_on _ _ _ _ (out_by _ _) c.step_by-a.ensures.0 _ c.number_of.ensures _ c.loop-a.invariant.0 (ap not c.if-not-on.false),
-    c.step_by-a.auto.t ∙ c.loop-a.invariant.3,
-    c.step_by-a.ensures.1,
-    own-length _ c.step_by-a.ensures.1)
+    let m = run_more _ _ _ _ (out_by _ _) c.step_by-a.ensures.0 _ c.number_of.ensures _ c.loop-a.invariant.0 (ap not c.if-not-on.false) in (
+      omega arith,
+      omega arith,
+      c.loop-a.invariant.2 ∙ run_on _ _ _ _ (out_by _ _) c.step_by-a.ensures.0 _ c.number_of.ensures _ c.loop-a.invariant.0 (ap not c.if-not-on.false),
+      c.step_by-a.auto.t ∙ c.loop-a.invariant.3,
+      c.step_by-a.ensures.1,
+      own-length _ c.step_by-a.ensures.1,
+    )
