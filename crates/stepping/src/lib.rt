@@ -1,5 +1,6 @@
 // Step: the refusals in their order, then what the task's phase asks for.
 #![tactic(auto)]
+
 ghost use Rattle.std.specs.Prelude.{◌≡◌, ◌+◌, ◌-◌, ◌*◌, ◌/◌, ◌≤◌, ◌<◌, length};
 ghost use Rattle.machine.specs.Contract.{Sized, after, acted, played};
 ghost use Rattle.machine.specs.Table.{view, slots};
@@ -29,7 +30,7 @@ pub fn phase_step(t: &mut [u32], n: u32, m: u32, j: Job, f: Phase) -> Outcome
 }
 
 // A step of task i, which does w.
-#[tactic(auto, unfolding(machine::specs::Contract::after, machine::specs::Step::step_work, machine::specs::Choice::if_b))]
+#[tactic(auto, unfolding(machine::specs::Contract::after, machine::specs::Contract::acted, machine::specs::Contract::played, machine::specs::Contract::turned_out, machine::specs::Step::step_work, machine::specs::Step::carried, machine::specs::Choice::if_b))]
 fn step_work(t: &mut [u32], n: u32, st: State, i: usize, w: Work) -> Out
     requires { Sized t.old n × (n ≡ slots t.old) × (i < 8) }
     ensures { after t.new result ≡ step_work t.old st i w }

@@ -1,0 +1,13 @@
+use Rattle.std.proofs.Common.{ap, not, arith}
+use Rattle.machine.proofs.Tests.{fits-most, sixes, slots-most}
+use Rattle.stepping.proofs.step.Goals as goal
+
+pub slots_of-requires : goal.slots_of-requires
+slots_of-requires c = fits-most _ _ c.length_fits.ensures (ap not c.if-not-length_fits.false)
+
+pub step_work-requires : goal.step_work-requires
+step_work-requires c = (
+  (rw c.slots_of.ensures (sixes _ _ c.length_fits.ensures (ap not c.if-not-length_fits.false)), rw c.slots_of.ensures (slots-most _ _ c.length_fits.ensures (ap not c.if-not-length_fits.false))),
+  c.slots_of.ensures,
+  omega arith,
+)
