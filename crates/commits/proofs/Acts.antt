@@ -4,7 +4,8 @@ use mathlib.Core.Bool.{Bool, false, true}
 use mathlib.Core.List.{[], ◌∷◌}
 use mathlib.Core.Path.{◌≡◌, refl, sym}
 use native.Mathlib.Omega.{arith}
-use Rattle.commits.proofs.Commits.{Rising, double-surgery, duo, promote-surgery, put-apart, put-level, put-surgery, rotate1-surgery, rotate2-surgery, take_surgery}
+use Rattle.commits.proofs.Order.{Rising}
+use Rattle.commits.proofs.Commits.{double-surgery, duo, promote-surgery, put-apart, put-level, put-surgery, rotate1-surgery, rotate2-surgery, take_surgery}
 use Rattle.commits.proofs.Forms.{deep, flat, lean, rank-join, renew, turn}
 use Rattle.commits.proofs.Grounds.{Fits, InnerRank, Two}
 use Rattle.commits.proofs.Shape.{Shape, double-there, double-toward, promote-there, ranked_join, rotate-there, rotate-toward, shape_at, shape_of, take_there}

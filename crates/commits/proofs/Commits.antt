@@ -7,6 +7,7 @@ use mathlib.Core.Path.{◌∙◌, ◌≡◌, ap, ap₂, refl, subst, sym}
 use native.Mathlib.Omega.{arith}
 use Rattle.commits.proofs.Forms.{deep, flat, lean, occ-deep, occ-flat, occ-lean, occ-renew, occ-root, occ-turn, renew, root-join, root-renew, turn}
 use Rattle.commits.proofs.Moves.{copy, copy-from, double, double-from, promote, promote-from, put_in, rotate-from, rotate1, rotate2, take_out, take_out_from}
+use Rattle.commits.proofs.Order.{Rising}
 use Rattle.commits.proofs.Place.{Local, from_at, lev_c-le, surgery_at}
 use Rattle.commits.proofs.Writes.{AllFree, AllOne, Among, Commit, Fresh, Rise, all_free, commit-fate, commit-inv, commit-off, commit-ran, fresh, fresh-hit, freshes, holds_join, join-holds, new_once, old_once, part_held, rise_once, slots, wrote}
 use Rattle.machine.specs.PutIn.{inner_of}
@@ -183,11 +184,6 @@ module _ (v : View) (c : Ctx) (b : Bool) (z x x' z' kx kz rz rx rx' rz' : ℕ) (
 abbrev pub duo : Bool → Fresh → Fresh → List Fresh
 duo true A B = A ∷ B ∷ []
 duo false A B = B ∷ A ∷ []
-
--- the slots rise: top, left, right
-abbrev pub Rising : Bool → ℕ → ℕ → ℕ → Type 0
-Rising true y x z = (y < x) × (x < z)
-Rising false y x z = (y < z) × (z < x)
 
 duo-times : (b : Bool) (A B : Fresh) (s : ℕ) → times s (slots (duo b A B)) ≡ ind s A.slot + ind s B.slot
 duo-times true A B s = omega arith

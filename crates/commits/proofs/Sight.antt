@@ -5,7 +5,8 @@ use mathlib.Core.List.{[], ◌∷◌}
 use mathlib.Core.Path.{◌∙◌, ◌≡◌, ap, ap₂, refl, subst, sym}
 use native.Mathlib.Omega.{arith}
 use Rattle.commits.proofs.Acts.{Act, Kind, above_act, doubles, level_put, promotes, puts, puts-in, rotates1, rotates2, settles, takes, takes_out}
-use Rattle.commits.proofs.Commits.{Rising, duo}
+use Rattle.commits.proofs.Order.{Rising}
+use Rattle.commits.proofs.Commits.{duo}
 use Rattle.commits.proofs.Forms.{deep, lean, rank-join, renew, root-join}
 use Rattle.commits.proofs.Grounds.{InnerRank, Steady, Two, outranked, parent-rank, put-fits, root-rank}
 use Rattle.commits.proofs.Shape.{Shape}
