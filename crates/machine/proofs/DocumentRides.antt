@@ -1,14 +1,7 @@
 -- The rides of second/rides/document.txt; made by second/to-proofs.
-use Prim.Native.Nat.{ℕ}
 use mathlib.Core.List.{List, [], ◌∷◌}
 use Rattle.terms.specs.declared.Operation.TheVariants.{LookUp, PutIn, TakeOut}
-use Rattle.terms.specs.declared.Goal.TheVariants.{Serve, Settle}
-use Rattle.terms.specs.declared.PutStage.TheVariants.{PutParent, PutLeaf, PutCommit}
-use Rattle.terms.specs.declared.TakeStage.TheVariants.{TakeGrand, TakeParent, TakeLeft, TakeRight, TakeCommit}
-use Rattle.terms.specs.declared.SettleStage.TheVariants.{SettleGrand, SettleParent, SettleChoose, SettleRotate, SettleDouble}
-use Rattle.terms.specs.declared.Phase.TheVariants.{Start, Walk, PuttingIn, TakingOut, Settling}
-use Rattle.terms.specs.Task.{idle_task}
-use Rattle.machine.proofs.Ride.{Ride, anew, onward, beside, begin, step, abandon, tidy, figures, list, field, m-is, u-is, length-is, task_is, call, damage, same, left, rec, links, path, busy}
+use Rattle.machine.proofs.Ride.{Ride, anew, onward, begin, step, abandon, tidy, figures, list, length-is, call, damage, same, left, rec}
 
 unfoldable pub document_rides : List Ride
 document_rides =
