@@ -1,5 +1,6 @@
 // Begin and abandon.
 #![tactic(auto)]
+
 ghost use Rattle.std.specs.Prelude.{◌≡◌, ◌+◌, ◌-◌, ◌*◌, ◌/◌, ◌≤◌, ◌<◌, length};
 ghost use Rattle.machine.specs.Contract.{after};
 ghost use Rattle.machine.specs.Calls.{begin_of, abandoned_out, abandon_of};

@@ -1,4 +1,4 @@
--- The laws of a call file's records: the run of operation 4 a step at a time, the calls by their record, a record's line.
+-- The laws of a call file's records: the run of operation 4 a step at a time, a record's line.
 use mathlib.Core.Path.{◌≡◌, refl, sym, subst, ◌∙◌}
 use mathlib.Core.Bool.{Bool, true, false, not, ◌&&◌}
 use mathlib.Core.List.{List}
@@ -68,31 +68,6 @@ module _ (t : List ℕ) (s : State) (i : ℕ) (t' : List ℕ) (o : Out) (eo : af
       let q : false ≡ true = both-second (eqb x 0) false (not-false (eqb x 0 && false) e) in
       absurd (let z : ◌≡◌ {A = ℕ} 0 1 = cc in omega arith)
   run_more (suc (suc c)) h e = omega arith
-
--- a call by its record
-module _ (t : List ℕ) (st : State) (c : Call) where
-  pub serve-begin :
-      (o : Operation) (i : ℕ) (j : Job) → c ≡ Begin o i j → (r : Out) → after t r ≡ begin_of t st i o j → after t r ≡ serve t st c
-  unfolding serve
-  serve-begin o i j e r er = rw e er
-
-  pub serve-steps : (i n : ℕ) → c ≡ Steps i n → (t' : List ℕ) (r : Out) → after t' r ≡ run_of n t st i → after t' r ≡ serve t st c
-  unfolding serve
-  serve-steps i n e t' r er = rw e er
-
-  pub serve-abandon : (i : ℕ) → c ≡ Abandon i → (r : Out) → after t r ≡ abandon_of t st i → after t r ≡ serve t st c
-  unfolding serve
-  serve-abandon i e r er = rw e er
-
-  pub serve-tidy : c ≡ Tidy → (t' : List ℕ) (r : Out) → after t' r ≡ tidy_of t st → after t' r ≡ serve t st c
-  unfolding serve
-  serve-tidy e t' r er = rw e er
-
-  pub serve-bad : c ≡ Bad → after t (record { state = st; answer = BadRecord }) ≡ serve t st c
-  unfolding serve after
-  serve-bad e = rw e
-
-pub ruleset serve-rows = (serve-begin, serve-steps, serve-abandon, serve-tidy, serve-bad)
 
 -- a record and its line
 pub record_row :

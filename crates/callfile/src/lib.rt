@@ -1,5 +1,6 @@
 // A record of a call file: its call, the run of operation 4, and the numbers of its printed line.
 #![tactic(auto)]
+
 ghost use Rattle.std.specs.Prelude.{◌≡◌, ◌&&◌, not, ◌+◌, ◌-◌, ◌*◌, ◌≤◌, ◌<◌, length};
 ghost use Rattle.machine.specs.Contract.{after};
 ghost use Rattle.machine.specs.Answers.{price_of};

@@ -4,7 +4,8 @@ use mathlib.Core.Bool.{Bool, false, true}
 use mathlib.Core.List.{[], ◌∷◌}
 use mathlib.Core.Path.{◌≡◌, refl, sym}
 use native.Mathlib.Omega.{arith}
-use Rattle.commits.proofs.Commits.{Rising, double-surgery, duo, promote-surgery, put-apart, put-level, put-surgery, rotate1-surgery, rotate2-surgery, take_surgery}
+use Rattle.commits.proofs.Order.{Rising}
+use Rattle.commits.proofs.Commits.{double-surgery, duo, promote-surgery, put-apart, put-level, put-surgery, rotate1-surgery, rotate2-surgery, take_surgery}
 use Rattle.commits.proofs.Forms.{deep, flat, lean, rank-join, renew, turn}
 use Rattle.commits.proofs.Grounds.{Fits, InnerRank, Two}
 use Rattle.commits.proofs.Shape.{Shape, double-there, double-toward, promote-there, ranked_join, rotate-there, rotate-toward, shape_at, shape_of, take_there}
@@ -27,10 +28,10 @@ pub data Kind : Type 0 where
 
 -- Grounds beside the table's: a settling commit that raises the top stands under a record that outranks it (`suc r ≤ rank_c c`); what a put-in puts stands in its place (`Fits`).
 pub data Act (v : View) : Kind → Tree → View → Tree → Type 0 where
-  puts : (c : Ctx) (k p h kh ph rh a l m ResultKind kl pl rl km pm rm : ℕ) → (v a).state ≡ 0 → (v l).state ≡ 0 → (v m).state ≡ 0 → a < l → l < m
-      → InnerRank rh ResultKind → Two k p kh ph rh kl pl rl km pm rm → Fits c a l m ResultKind kl pl rl km pm rm → Has h (route k (plug c (leaf h kh ph rh)))
+  puts : (c : Ctx) (k p h kh ph rh a l m RK kl pl rl km pm rm : ℕ) → (v a).state ≡ 0 → (v l).state ≡ 0 → (v m).state ≡ 0 → a < l → l < m
+      → InnerRank rh RK → Two k p kh ph rh kl pl rl km pm rm → Fits c a l m RK kl pl rl km pm rm → Has h (route k (plug c (leaf h kh ph rh)))
       → Act v (puts-in k p) (plug c (leaf h kh ph rh))
-      (wrote v c a (fresh a (inner_of km ResultKind l m) ∷ fresh l (leaf_rec kl pl rl) ∷ fresh m (leaf_rec km pm rm) ∷ []) (h ∷ [])) (plug c (node a km ResultKind (leaf l kl pl rl) (leaf m km pm rm)))
+      (wrote v c a (fresh a (inner_of km RK l m) ∷ fresh l (leaf_rec kl pl rl) ∷ fresh m (leaf_rec km pm rm) ∷ []) (h ∷ [])) (plug c (node a km RK (leaf l kl pl rl) (leaf m km pm rm)))
   takes : (c : Ctx) (b : Bool) (p kp rp l kl pl rl s' : ℕ) (S : Tree) → (v s').state ≡ 0 → kl < 1000000
       → Act v (takes_out kl) (plug c (join b p kp rp (leaf l kl pl rl) S)) (wrote v c s' (fresh s' (v (root S)) ∷ []) (p ∷ l ∷ root S ∷ [])) (plug c (renew s' S))
   promotes : (c : Ctx) (b : Bool) (z z' key r : ℕ) (X S : Tree) → (v z').state ≡ 0 → lv r (rank X) ≡ true → r ≤ suc (rank S) → suc r ≤ rank_c c → suc r ≤ 28
@@ -50,7 +51,7 @@ pub data Act (v : View) : Kind → Tree → View → Tree → Type 0 where
 
 -- the record above_act the changed place
 abbrev pub above_act : {v w : View} {kind : Kind} {t t' : Tree} → Act v kind t w t' → ℕ
-above_act (puts c k p h kh ph rh a l m ResultKind kl pl rl km pm rm fa fl fm al lm r two fits on) = parent c
+above_act (puts c k p h kh ph rh a l m RK kl pl rl km pm rm fa fl fm al lm r two fits on) = parent c
 above_act (takes c b p kp rp l kl pl rl s' S free fare) = parent c
 above_act (promotes c b z z' key r X S free lx near up lim) = parent c
 above_act (rotates1 c b z x x' z' kx kz rx j W Y S fx fz xz lx hy hs lim) = parent c
@@ -59,7 +60,7 @@ above_act (doubles c b z x y y' x' z' kx ky kz rx ry j W A B S fy fx fz up lx ey
 
 -- whether a put-in's new inner record is level with its parent: then its task settles next
 abbrev pub level_put : {v w : View} {kind : Kind} {t t' : Tree} → Act v kind t w t' → Bool
-level_put (puts c k p h kh ph rh a l m ResultKind kl pl rl km pm rm fa fl fm al lm r two fits on) = lv (rank_c c) ResultKind
+level_put (puts c k p h kh ph rh a l m RK kl pl rl km pm rm fa fl fm al lm r two fits on) = lv (rank_c c) RK
 level_put (takes c b p kp rp l kl pl rl s' S free fare) = false
 level_put (promotes c b z z' key r X S free lx near up lim) = false
 level_put (rotates1 c b z x x' z' kx kz rx j W Y S fx fz xz lx hy hs lim) = false
@@ -93,13 +94,13 @@ rank-small : (r q : ℕ) → lv r q ≡ true → r ≤ 28 → q < 255
 rank-small r q e h = omega (arith, lv-eq r q e)
 
 pub proper : {v w : View} {kind : Kind} {t t' : Tree} (act : Act v kind t w t') → Carries v t → Shape t → Proper act
-proper {v} (puts c k p h kh ph rh a l m ResultKind kl pl rl km pm rm fa fl fm al lm r two fits on) i f = record {
+proper {v} (puts c k p h kh ph rh a l m RK kl pl rl km pm rm fa fl fm al lm r two fits on) i f = record {
   x = a;
   y = h;
   free = fa;
-  surgery = put-surgery v c h kh ph rh a l m km ResultKind kl pl rl km pm rm i fa fl fm al lm fits.low-apart fits.high-apart;
-  from = λ e. put-apart v c h kh ph rh a l m km ResultKind kl pl rl km pm rm i fa fl fm al lm fits.low-apart fits.high-apart (no-level (rank_c c) ResultKind e);
-  level = λ e. (put-level v c h kh ph rh a l m km ResultKind kl pl rl km pm rm i fa fl fm al lm e, on);
+  surgery = put-surgery v c h kh ph rh a l m km RK kl pl rl km pm rm i fa fl fm al lm fits.low-apart fits.high-apart;
+  from = λ e. put-apart v c h kh ph rh a l m km RK kl pl rl km pm rm i fa fl fm al lm fits.low-apart fits.high-apart (no-level (rank_c c) RK e);
+  level = λ e. (put-level v c h kh ph rh a l m km RK kl pl rl km pm rm i fa fl fm al lm e, on);
   shape = shape_of c (leaf h kh ph rh) _ f fits.there;
 }
 proper {v} (takes c b p kp rp l kl pl rl s' S free fare) i f =

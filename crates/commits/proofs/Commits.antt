@@ -7,6 +7,7 @@ use mathlib.Core.Path.{◌∙◌, ◌≡◌, ap, ap₂, refl, subst, sym}
 use native.Mathlib.Omega.{arith}
 use Rattle.commits.proofs.Forms.{deep, flat, lean, occ-deep, occ-flat, occ-lean, occ-renew, occ-root, occ-turn, renew, root-join, root-renew, turn}
 use Rattle.commits.proofs.Moves.{copy, copy-from, double, double-from, promote, promote-from, put_in, rotate-from, rotate1, rotate2, take_out, take_out_from}
+use Rattle.commits.proofs.Order.{Rising}
 use Rattle.commits.proofs.Place.{Local, from_at, lev_c-le, surgery_at}
 use Rattle.commits.proofs.Writes.{AllFree, AllOne, Among, Commit, Fresh, Rise, all_free, commit-fate, commit-inv, commit-off, commit-ran, fresh, fresh-hit, freshes, holds_join, join-holds, new_once, old_once, part_held, rise_once, slots, wrote}
 use Rattle.machine.specs.PutIn.{inner_of}
@@ -49,13 +50,13 @@ both_by v c old new N R {x} {y} i m l f e =
 
 -- ---- put_in
 
-module _ (v : View) (c : Ctx) (h kh ph rh a l m K ResultKind kl pl rl km pm rm : ℕ) (i : Carries v (plug c (leaf h kh ph rh)))
+module _ (v : View) (c : Ctx) (h kh ph rh a l m K RK kl pl rl km pm rm : ℕ) (i : Carries v (plug c (leaf h kh ph rh)))
     (fa : (v a).state ≡ 0) (fl : (v l).state ≡ 0) (fm : (v m).state ≡ 0) (al : a < l) (lm : l < m) where
   abbrev pub two : Tree
-  two = node a K ResultKind (leaf l kl pl rl) (leaf m km pm rm)
+  two = node a K RK (leaf l kl pl rl) (leaf m km pm rm)
 
   abbrev pub N₀ : List Fresh
-  N₀ = fresh a (inner_of K ResultKind l m) ∷ fresh l (leaf_rec kl pl rl) ∷ fresh m (leaf_rec km pm rm) ∷ []
+  N₀ = fresh a (inner_of K RK l m) ∷ fresh l (leaf_rec kl pl rl) ∷ fresh m (leaf_rec km pm rm) ∷ []
 
   put-commit : Commit v (leaf h kh ph rh) two N₀ (h ∷ [])
   put-commit =
@@ -63,17 +64,17 @@ module _ (v : View) (c : Ctx) (h kh ph rh a l m K ResultKind kl pl rl km pm rm :
       commit-by (refl, (refl, (refl, tt))) up (fa, (fl, (fm, tt))) fa (λ s. omega arith) (λ s. omega arith)
       (fresh-hit v N₀ a _ (rise_once 0 N₀ up a) (inl (refl, refl)), fresh-hit v N₀ l _ (rise_once 0 N₀ up l) (inr (inl (refl, refl))), fresh-hit v N₀ m _ (rise_once 0 N₀ up m) (inr (inr (inl (refl, refl)))))
 
-  pub put-surgery : (lv ResultKind rl ≡ true → ⊥) → (lv ResultKind rm ≡ true → ⊥) → Surgery v (wrote v c a N₀ (h ∷ [])) (plug c (leaf h kh ph rh)) (plug c two) a h
+  pub put-surgery : (lv RK rl ≡ true → ⊥) → (lv RK rm ≡ true → ⊥) → Surgery v (wrote v c a N₀ (h ∷ [])) (plug c (leaf h kh ph rh)) (plug c two) a h
   put-surgery nl nm =
       let q = put-commit in
       surgery_by v c (leaf h kh ph rh) two N₀ (h ∷ []) i q
-      (put_in (wrote v c a N₀ (h ∷ [])) (rank_c c) h kh ph rh a K ResultKind l kl pl rl m km pm rm (commit-off v c (leaf h kh ph rh) two N₀ (h ∷ []) i q h (omega (arith, ind-same h)))
+      (put_in (wrote v c a N₀ (h ∷ [])) (rank_c c) h kh ph rh a K RK l kl pl rl m km pm rm (commit-off v c (leaf h kh ph rh) two N₀ (h ∷ []) i q h (omega (arith, ind-same h)))
       (commit-ran v c (leaf h kh ph rh) two N₀ (h ∷ []) i q) nl nm)
 
-  pub put-level : lv (rank_c c) ResultKind ≡ true → 1 ≤ lev_at 255 a (plug c two)
-  put-level e = omega (arith, lev_at-plug a c two, lvs-yes (rank_c c) ResultKind (ind a a) e, ind-same a)
+  pub put-level : lv (rank_c c) RK ≡ true → 1 ≤ lev_at 255 a (plug c two)
+  put-level e = omega (arith, lev_at-plug a c two, lvs-yes (rank_c c) RK (ind a a) e, ind-same a)
 
-  pub put-apart : (lv ResultKind rl ≡ true → ⊥) → (lv ResultKind rm ≡ true → ⊥) → (lv (rank_c c) ResultKind ≡ true → ⊥) → From (plug c (leaf h kh ph rh)) (plug c two) a h
+  pub put-apart : (lv RK rl ≡ true → ⊥) → (lv RK rm ≡ true → ⊥) → (lv (rank_c c) RK ≡ true → ⊥) → From (plug c (leaf h kh ph rh)) (plug c two) a h
   put-apart nl nm na e =
       absurd (omega (
         arith,
@@ -84,9 +85,9 @@ module _ (v : View) (c : Ctx) (h kh ph rh a l m K ResultKind kl pl rl km pm rm :
         (commit-inv v c (leaf h kh ph rh) two N₀ (h ∷ []) i put-commit).ones a,
         ind-le (wrote v c a N₀ (h ∷ []) a).state 1,
         ind-same a,
-        lvs-not (rank_c c) ResultKind (ind a a) na,
-        lvs-not ResultKind rl (ind a l) nl,
-        lvs-not ResultKind rm (ind a m) nm,
+        lvs-not (rank_c c) RK (ind a a) na,
+        lvs-not RK rl (ind a l) nl,
+        lvs-not RK rm (ind a m) nm,
       ))
 
 -- ---- promote
@@ -183,11 +184,6 @@ module _ (v : View) (c : Ctx) (b : Bool) (z x x' z' kx kz rz rx rx' rz' : ℕ) (
 abbrev pub duo : Bool → Fresh → Fresh → List Fresh
 duo true A B = A ∷ B ∷ []
 duo false A B = B ∷ A ∷ []
-
--- the slots rise: top, left, right
-abbrev pub Rising : Bool → ℕ → ℕ → ℕ → Type 0
-Rising true y x z = (y < x) × (x < z)
-Rising false y x z = (y < z) × (z < x)
 
 duo-times : (b : Bool) (A B : Fresh) (s : ℕ) → times s (slots (duo b A B)) ≡ ind s A.slot + ind s B.slot
 duo-times true A B s = omega arith

@@ -87,62 +87,62 @@ two-ranks k p kh ph rh _ _ _ _ _ _ (above q) = inr (refl, refl)
 
 -- "Inner rank 1, or 255 if the leaf was a sentinel."
 abbrev pub InnerRank : ℕ → ℕ → Type 0
-InnerRank rh ResultKind = ((rh ≡ 255) × (ResultKind ≡ 255)) ⊎ ((rh ≡ 0) × (ResultKind ≡ 1))
+InnerRank rh RK = ((rh ≡ 255) × (RK ≡ 255)) ⊎ ((rh ≡ 0) × (RK ≡ 1))
 
-pub record Fits (c : Ctx) (a l m ResultKind kl pl rl km pm rm : ℕ) : Type 0 where
-  pub there : There c (node a km ResultKind (leaf l kl pl rl) (leaf m km pm rm))
-  pub low-apart : lv ResultKind rl ≡ true → ⊥
-  pub high-apart : lv ResultKind rm ≡ true → ⊥
+pub record Fits (c : Ctx) (a l m RK kl pl rl km pm rm : ℕ) : Type 0 where
+  pub there : There c (node a km RK (leaf l kl pl rl) (leaf m km pm rm))
+  pub low-apart : lv RK rl ≡ true → ⊥
+  pub high-apart : lv RK rm ≡ true → ⊥
 
 -- an inner record's rank is at least 1
 pub parent-inner : (c : Ctx) → MarkedC c → 1 ≤ rank_c c
 parent-inner top h = omega arith
 parent-inner (hole b s k rk u c) h = elim h.0 [ inl e ↦ omega (arith, e.1) | inr e ↦ omega (arith, e.1) ]
 
-apart-ranks : (ResultKind r : ℕ) → (ResultKind ≡ r → ⊥) → lv ResultKind r ≡ true → ⊥
-apart-ranks ResultKind r d e = d (lv-eq ResultKind r e)
+apart-ranks : (RK r : ℕ) → (RK ≡ r → ⊥) → lv RK r ≡ true → ⊥
+apart-ranks RK r d e = d (lv-eq RK r e)
 
 -- where the leaf's labels and the search bounds are known
-fits-at : (c : Ctx) (k p kh ph rh a l m ResultKind kl pl rl km pm rm : ℕ) → k < 1000000 → p < 100000 → LeafMarks kh ph rh → InnerRank rh ResultKind → rh ≤ rank_c c → 1 ≤ rank_c c
-    → low c ≤ k → k < high c → low c ≤ kh → kh < high c → Two k p kh ph rh kl pl rl km pm rm → Fits c a l m ResultKind kl pl rl km pm rm
-fits-at c k p kh ph rh a l m ResultKind _ _ _ _ _ _ hk hp (inl s) (inl r) u o lk kk lh hh (below q) = record {
+fits-at : (c : Ctx) (k p kh ph rh a l m RK kl pl rl km pm rm : ℕ) → k < 1000000 → p < 100000 → LeafMarks kh ph rh → InnerRank rh RK → rh ≤ rank_c c → 1 ≤ rank_c c
+    → low c ≤ k → k < high c → low c ≤ kh → kh < high c → Two k p kh ph rh kl pl rl km pm rm → Fits c a l m RK kl pl rl km pm rm
+fits-at c k p kh ph rh a l m RK _ _ _ _ _ _ hk hp (inl s) (inl r) u o lk kk lh hh (below q) = record {
   there = record {
     under = omega (arith, r.0, r.1);
     ranks = (omega (arith, r.1), omega (arith, r.0, r.1), tt, tt);
     within = ((lk, q), (omega arith, hh));
     labels = (inl (s.0, r.1), inr (hk, hp, refl), inl s);
   };
-  low-apart = apart-ranks ResultKind 0 (λ e. omega (arith, r.1));
-  high-apart = λ e. lv-not_255 ResultKind (rw s.2 at e);
+  low-apart = apart-ranks RK 0 (λ e. omega (arith, r.1));
+  high-apart = λ e. lv-not_255 RK (rw s.2 at e);
 }
-fits-at c k p kh ph rh a l m ResultKind _ _ _ _ _ _ hk hp (inl s) (inl r) u o lk kk lh hh (above q) = absurd (omega (arith, s.0))
-fits-at c k p kh ph rh a l m ResultKind _ _ _ _ _ _ hk hp (inl s) (inr r) u o lk kk lh hh w = absurd (omega (arith, s.2, r.0))
-fits-at c k p kh ph rh a l m ResultKind _ _ _ _ _ _ hk hp (inr s) (inl r) u o lk kk lh hh w = absurd (omega (arith, s.2, r.0))
-fits-at c k p kh ph rh a l m ResultKind _ _ _ _ _ _ hk hp (inr s) (inr r) u o lk kk lh hh (below q) = record {
+fits-at c k p kh ph rh a l m RK _ _ _ _ _ _ hk hp (inl s) (inl r) u o lk kk lh hh (above q) = absurd (omega (arith, s.0))
+fits-at c k p kh ph rh a l m RK _ _ _ _ _ _ hk hp (inl s) (inr r) u o lk kk lh hh w = absurd (omega (arith, s.2, r.0))
+fits-at c k p kh ph rh a l m RK _ _ _ _ _ _ hk hp (inr s) (inl r) u o lk kk lh hh w = absurd (omega (arith, s.2, r.0))
+fits-at c k p kh ph rh a l m RK _ _ _ _ _ _ hk hp (inr s) (inr r) u o lk kk lh hh (below q) = record {
   there = record {
     under = omega (arith, r.1);
     ranks = (omega (arith, r.1), omega (arith, r.0, r.1), tt, tt);
     within = ((lk, q), (omega arith, hh));
     labels = (inr (s.0, omega (arith, r.1), omega (arith, r.1)), inr (hk, hp, refl), inr s);
   };
-  low-apart = apart-ranks ResultKind 0 (λ e. omega (arith, r.1));
-  high-apart = apart-ranks ResultKind rh (λ e. omega (arith, r.0, r.1));
+  low-apart = apart-ranks RK 0 (λ e. omega (arith, r.1));
+  high-apart = apart-ranks RK rh (λ e. omega (arith, r.0, r.1));
 }
-fits-at c k p kh ph rh a l m ResultKind _ _ _ _ _ _ hk hp (inr s) (inr r) u o lk kk lh hh (above q) = record {
+fits-at c k p kh ph rh a l m RK _ _ _ _ _ _ hk hp (inr s) (inr r) u o lk kk lh hh (above q) = record {
   there = record {
     under = omega (arith, r.1);
     ranks = (omega (arith, r.0, r.1), omega (arith, r.1), tt, tt);
     within = ((lh, q), (omega arith, kk));
     labels = (inr (hk, omega (arith, r.1), omega (arith, r.1)), inr s, inr (hk, hp, refl));
   };
-  low-apart = apart-ranks ResultKind rh (λ e. omega (arith, r.0, r.1));
-  high-apart = apart-ranks ResultKind 0 (λ e. omega (arith, r.1));
+  low-apart = apart-ranks RK rh (λ e. omega (arith, r.0, r.1));
+  high-apart = apart-ranks RK 0 (λ e. omega (arith, r.1));
 }
 
 -- the ground of a put-in: its three records stand in order, under the parent
-pub put-fits : (v : View) (c : Ctx) (k p h kh ph rh a l m ResultKind kl pl rl km pm rm : ℕ) → Carries v (plug c (leaf h kh ph rh)) → Shape (plug c (leaf h kh ph rh)) → k < 1000000 → p < 100000
-    → Has h (route k (plug c (leaf h kh ph rh))) → InnerRank rh ResultKind → Two k p kh ph rh kl pl rl km pm rm → Fits c a l m ResultKind kl pl rl km pm rm
-put-fits v c k p h kh ph rh a l m ResultKind kl pl rl km pm rm i f hk hp on r w =
+pub put-fits : (v : View) (c : Ctx) (k p h kh ph rh a l m RK kl pl rl km pm rm : ℕ) → Carries v (plug c (leaf h kh ph rh)) → Shape (plug c (leaf h kh ph rh)) → k < 1000000 → p < 100000
+    → Has h (route k (plug c (leaf h kh ph rh))) → InnerRank rh RK → Two k p kh ph rh kl pl rl km pm rm → Fits c a l m RK kl pl rl km pm rm
+put-fits v c k p h kh ph rh a l m RK kl pl rl km pm rm i f hk hp on r w =
     let g = goes-within k c (omega arith) (route-goes v k c (leaf h kh ph rh) i on) in
     let s = shape_at c (leaf h kh ph rh) f in
-    fits-at c k p kh ph rh a l m ResultKind kl pl rl km pm rm hk hp s.labels r s.under (parent-inner c (shape_marks c (leaf h kh ph rh) f)) g.0 g.1 s.within.0 s.within.1 w
+    fits-at c k p kh ph rh a l m RK kl pl rl km pm rm hk hp s.labels r s.under (parent-inner c (shape_marks c (leaf h kh ph rh) f)) g.0 g.1 s.within.0 s.within.1 w

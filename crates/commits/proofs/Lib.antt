@@ -2,6 +2,7 @@ pub mod Forms
 pub mod Place
 pub mod Moves
 pub mod Writes
+pub mod Order
 pub mod Commits
 pub mod Shape
 pub mod Grounds

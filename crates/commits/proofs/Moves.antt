@@ -28,15 +28,15 @@ not_level q r d e = d (lv-eq q r e)
 
 -- ---- put_in
 
-module _ (w : View) (q h kh ph rh a K ResultKind l kl pl rl m km pm rm : ℕ) (oh : Off w h)
-    (ran : (s : ℕ) → 1 ≤ occ s (node a K ResultKind (leaf l kl pl rl) (leaf m km pm rm)) → (w s).state ≡ 1) where
-  pub put_in : (lv ResultKind rl ≡ true → ⊥) → (lv ResultKind rm ≡ true → ⊥) → Local w q a h (leaf h kh ph rh) (node a K ResultKind (leaf l kl pl rl) (leaf m km pm rm))
+module _ (w : View) (q h kh ph rh a K RK l kl pl rl m km pm rm : ℕ) (oh : Off w h)
+    (ran : (s : ℕ) → 1 ≤ occ s (node a K RK (leaf l kl pl rl) (leaf m km pm rm)) → (w s).state ≡ 1) where
+  pub put_in : (lv RK rl ≡ true → ⊥) → (lv RK rm ≡ true → ⊥) → Local w q a h (leaf h kh ph rh) (node a K RK (leaf l kl pl rl) (leaf m km pm rm))
   put_in nl nm = record {
     paths = λ k. patch (drop oh done);
     y_in = omega (arith, ind-same h);
     x_in = omega (arith, ind-same a);
-    y-lost = gone w q h (node a K ResultKind (leaf l kl pl rl) (leaf m km pm rm)) ran oh;
-    no-new = λ b d. omega (arith, lvs-le q ResultKind (ind b a), ind-other b a d, lvs-not ResultKind rl (ind b l) nl, lvs-not ResultKind rm (ind b m) nm);
+    y-lost = gone w q h (node a K RK (leaf l kl pl rl) (leaf m km pm rm)) ran oh;
+    no-new = λ b d. omega (arith, lvs-le q RK (ind b a), ind-other b a d, lvs-not RK rl (ind b l) nl, lvs-not RK rm (ind b m) nm);
   }
 
 -- ---- promote: x, level with z, stays, and its token goes to the copy of z

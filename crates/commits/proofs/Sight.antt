@@ -5,7 +5,8 @@ use mathlib.Core.List.{[], ◌∷◌}
 use mathlib.Core.Path.{◌∙◌, ◌≡◌, ap, ap₂, refl, subst, sym}
 use native.Mathlib.Omega.{arith}
 use Rattle.commits.proofs.Acts.{Act, Kind, above_act, doubles, level_put, promotes, puts, puts-in, rotates1, rotates2, settles, takes, takes_out}
-use Rattle.commits.proofs.Commits.{Rising, duo}
+use Rattle.commits.proofs.Order.{Rising}
+use Rattle.commits.proofs.Commits.{duo}
 use Rattle.commits.proofs.Forms.{deep, lean, rank-join, renew, root-join}
 use Rattle.commits.proofs.Grounds.{InnerRank, Steady, Two, outranked, parent-rank, put-fits, root-rank}
 use Rattle.commits.proofs.Shape.{Shape}
@@ -265,22 +266,22 @@ leaf_place v t i p h d one leads nz end = found (child-of v t i p h d one leads 
         let lf = is_leaf_lem v ch.ctx ch.sub (rw ch.whole at i) (ap (λ y. (v y).left) ch.at ∙ end) in
         here ch.ctx ch.sub lf.0 lf.1 lf.2 ch.whole ch.at lf.3 ch.under ch.on
 
-module _ (v : View) (t : Tree) (i : Carries v t) (f : Shape t) (k pk p h a l m ResultKind kl pl rl km pm rm : ℕ) (d : Bool) (lt : k < 1000000) (lp : pk < 100000)
-    (on : Has h (route k t)) (r : InnerRank (v h).rank ResultKind) (two : Two k pk (v h).number (v h).price (v h).rank kl pl rl km pm rm)
+module _ (v : View) (t : Tree) (i : Carries v t) (f : Shape t) (k pk p h a l m RK kl pl rl km pm rm : ℕ) (d : Bool) (lt : k < 1000000) (lp : pk < 100000)
+    (on : Has h (route k t)) (r : InnerRank (v h).rank RK) (two : Two k pk (v h).number (v h).price (v h).rank kl pl rl km pm rm)
     (fa : (v a).state ≡ 0) (fl : (v l).state ≡ 0) (fm : (v m).state ≡ 0) (al : a < l) (lm : l < m) where
   abbrev pub putting : View
-  putting = upds v (fill a (inner_of km ResultKind l m) ∷ fill l (leaf_rec kl pl rl) ∷ fill m (leaf_rec km pm rm) ∷ off h ∷ lead p d a ∷ [])
+  putting = upds v (fill a (inner_of km RK l m) ∷ fill l (leaf_rec kl pl rl) ∷ fill m (leaf_rec km pm rm) ∷ off h ∷ lead p d a ∷ [])
 
-  put-at : (c : Ctx) → t ≡ plug c (leaf h (v h).number (v h).price (v h).rank) → parent c ≡ p → pside c ≡ d → PutChanged v k pk t putting (lv (v p).rank ResultKind)
+  put-at : (c : Ctx) → t ≡ plug c (leaf h (v h).number (v h).price (v h).rank) → parent c ≡ p → pside c ≡ d → PutChanged v k pk t putting (lv (v p).rank RK)
   put-at c whole under side =
-      let fits = put-fits v c k pk h (v h).number (v h).price (v h).rank a l m ResultKind kl pl rl km pm rm (rw whole at i) (rw whole at f) lt lp (rw whole at on) r two in
+      let fits = put-fits v c k pk h (v h).number (v h).price (v h).rank a l m RK kl pl rl km pm rm (rw whole at i) (rw whole at f) lt lp (rw whole at on) r two in
       let g = take_apart_lem v c (leaf h (v h).number (v h).price (v h).rank) (rw whole at i.entry) (rw whole at i.holds) in
       rw (whole, ← under, ← side)
       (record {
-        tree = plug c (node a km ResultKind (leaf l kl pl rl) (leaf m km pm rm));
-        act = puts c k pk h (v h).number (v h).price (v h).rank a l m ResultKind kl pl rl km pm rm fa fl fm al lm r two fits (rw whole at on);
-        level = ap (λ y. lv y ResultKind) (sym (parent-rank v c h g.0));
+        tree = plug c (node a km RK (leaf l kl pl rl) (leaf m km pm rm));
+        act = puts c k pk h (v h).number (v h).price (v h).rank a l m RK kl pl rl km pm rm fa fl fm al lm r two fits (rw whole at on);
+        level = ap (λ y. lv y RK) (sym (parent-rank v c h g.0));
       })
 
-  pub put-seen : (v p).state ≡ 1 → link d (v p) ≡ h → (h ≡ 0 → ⊥) → (v h).left ≡ 0 → PutChanged v k pk t putting (lv (v p).rank ResultKind)
+  pub put-seen : (v p).state ≡ 1 → link d (v p) ≡ h → (h ≡ 0 → ⊥) → (v h).left ≡ 0 → PutChanged v k pk t putting (lv (v p).rank RK)
   put-seen one leads nz end = let q = leaf_place v t i p h d one leads nz end in put-at q.c q.whole q.under q.on

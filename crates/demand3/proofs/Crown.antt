@@ -64,8 +64,8 @@ turn-sents c b z x x' z' kx kz rz rx rx' rz' W Y S =
     )
 
 pub act_sents : {v w : View} {kind : Kind} {t t' : Tree} → Act v kind t w t' → Shape t → sents t' ≡ sents t
-act_sents (puts c k p h kh ph rh a l m ResultKind kl pl rl km pm rm fa fl fm al lm r two fits on) f =
-    omega (arith, sents-plug c (node a km ResultKind (leaf l kl pl rl) (leaf m km pm rm)), sents-plug c (leaf h kh ph rh), two-sents k p kh ph rh kl pl rl km pm rm two)
+act_sents (puts c k p h kh ph rh a l m RK kl pl rl km pm rm fa fl fm al lm r two fits on) f =
+    omega (arith, sents-plug c (node a km RK (leaf l kl pl rl) (leaf m km pm rm)), sents-plug c (leaf h kh ph rh), two-sents k p kh ph rh kl pl rl km pm rm two)
 act_sents (takes c b p kp rp l kl pl rl s' S free fare) f =
     let marks = (marked-join b p kp rp (leaf l kl pl rl) S (shape_at c (join b p kp rp (leaf l kl pl rl) S) f).labels).1 in
     omega (

@@ -55,19 +55,19 @@ one-fare : (k p : ℕ) → leaf_fares k p 0 ≡ record { number = k; price = p }
 unfolding leaf_fares if_b
 one-fare k p = refl
 
-put-fares : (c : Ctx) (k p h kh ph rh a l m ResultKind kl pl rl km pm rm : ℕ) → Two k p kh ph rh kl pl rl km pm rm
-    → Insert k p (fares (plug c (leaf h kh ph rh))) (fares (plug c (node a km ResultKind (leaf l kl pl rl) (leaf m km pm rm))))
-put-fares c k p h kh ph rh a l m ResultKind _ _ _ _ _ _ (below q) = record {
+put-fares : (c : Ctx) (k p h kh ph rh a l m RK kl pl rl km pm rm : ℕ) → Two k p kh ph rh kl pl rl km pm rm
+    → Insert k p (fares (plug c (leaf h kh ph rh))) (fares (plug c (node a km RK (leaf l kl pl rl) (leaf m km pm rm))))
+put-fares c k p h kh ph rh a l m RK _ _ _ _ _ _ (below q) = record {
   xs = front c;
   ys = leaf_fares kh ph rh ++ back c;
   without = fares-plug c (leaf h kh ph rh);
-  with_it = fares-plug c (node a kh ResultKind (leaf l k p 0) (leaf m kh ph rh)) ∙ ap (λ r. front c ++ ((r ++ leaf_fares kh ph rh) ++ back c)) (one-fare k p);
+  with_it = fares-plug c (node a kh RK (leaf l k p 0) (leaf m kh ph rh)) ∙ ap (λ r. front c ++ ((r ++ leaf_fares kh ph rh) ++ back c)) (one-fare k p);
 }
-put-fares c k p h kh ph rh a l m ResultKind _ _ _ _ _ _ (above q) = record {
+put-fares c k p h kh ph rh a l m RK _ _ _ _ _ _ (above q) = record {
   xs = front c ++ leaf_fares kh ph rh;
   ys = back c;
   without = fares-plug c (leaf h kh ph rh) ∙ sym (append_assoc (front c) (leaf_fares kh ph rh) (back c));
-  with_it = fares-plug c (node a k ResultKind (leaf l kh ph rh) (leaf m k p 0)) ∙ ap (λ r. front c ++ ((leaf_fares kh ph rh ++ r) ++ back c)) (one-fare k p)
+  with_it = fares-plug c (node a k RK (leaf l kh ph rh) (leaf m k p 0)) ∙ ap (λ r. front c ++ ((leaf_fares kh ph rh ++ r) ++ back c)) (one-fare k p)
       ∙ ap (λ r. front c ++ r) (append_assoc (leaf_fares kh ph rh) (record { number = k; price = p } ∷ []) (back c))
       ∙ sym (append_assoc (front c) (leaf_fares kh ph rh) (record { number = k; price = p } ∷ back c));
 }
@@ -104,7 +104,7 @@ Changes (takes_out k) old new = (p : ℕ) × Insert k p new old
 Changes settles old new = new ≡ old
 
 pub act_fares : {v w : View} {kind : Kind} {t t' : Tree} → Act v kind t w t' → Shape t → Changes kind (fares t) (fares t')
-act_fares (puts c k p h kh ph rh a l m ResultKind kl pl rl km pm rm fa fl fm al lm r two fits on) f = put-fares c k p h kh ph rh a l m ResultKind kl pl rl km pm rm two
+act_fares (puts c k p h kh ph rh a l m RK kl pl rl km pm rm fa fl fm al lm r two fits on) f = put-fares c k p h kh ph rh a l m RK kl pl rl km pm rm two
 act_fares (takes c b p kp rp l kl pl rl s' S free fare) f =
     let marks = (marked-join b p kp rp (leaf l kl pl rl) S (shape_at c (join b p kp rp (leaf l kl pl rl) S) f).labels).1 in
     (pl, take_fares c b p kp rp l kl pl rl s' S (fare-leaf kl pl rl marks fare))

@@ -1,5 +1,5 @@
 -- Histories computed: after every call of them the list call writes what the account holds, and figures hands back its m and c.
-use Prim.Native.Nat.{ℕ, zero, suc, ◌+◌, ◌*◌}
+use Prim.Native.Nat.{ℕ, zero, suc}
 use mathlib.Core.Bool.{Bool, true, false, ◌&&◌}
 use mathlib.Core.List.{List, [], ◌∷◌, ◌++◌}
 use lib.Dec.{eqb, T}
@@ -25,9 +25,9 @@ use Rattle.machine.specs.Table.{place, length_fits, view, put, puts, free_from, 
 use Rattle.machine.specs.TakeOut.{take_apart, take_leaf, take_grounds, take_test, take_room, take_commit, read_take_grand, read_take_parent, read_take_left, read_take_right, take_step}
 use Rattle.machine.specs.Walk.{sought, at_leaf, serve_arrival, outranks, settle_arrival, arrival, walk_to, walk_from, walk_on}
 use Rattle.machine.specs.Contract.{after}
-use Rattle.history.specs.Machine.{Machine, real}
-use Rattle.history.specs.History.{Ask, reset, begin, step, abandon, tidy, figures, list, left}
-use Rattle.history.specs.Ledger.{Account, Point, written, given, put_ins, count_c, added, removed, ends, put_stepped, take_stepped, stepped, abandoned_by, entered, still_open, advance, goes, started, history}
+use Rattle.history.specs.Machine.{real}
+use Rattle.history.specs.History.{Ask, reset, begin, step, abandon, tidy, figures, list}
+use Rattle.history.specs.Ledger.{Point, written, given, put_ins, count_c, added, removed, ends, put_stepped, take_stepped, stepped, abandoned_by, entered, still_open, advance, goes, started, history}
 
 equal : List ℕ → List ℕ → Bool
 equal [] [] = true

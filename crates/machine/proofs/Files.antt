@@ -1,5 +1,5 @@
 -- Call files and the numbers that the program prints for them.
-use Prim.Native.Nat.{ℕ, ◌+◌, ◌*◌, ◌/◌, ◌%◌}
+use Prim.Native.Nat.{ℕ, ◌/◌, ◌%◌}
 use mathlib.Core.List.{List, [], ◌∷◌, ◌++◌}
 
 pub record File : Type 0 where

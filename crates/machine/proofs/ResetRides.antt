@@ -1,5 +1,4 @@
 -- Rides of the reset call: its 18, the lengths just beside it, and that it starts everything anew, with a task busy and counts out of range.
-use Prim.Native.Nat.{ℕ}
 use mathlib.Core.List.{List, [], ◌∷◌}
 use Rattle.terms.specs.declared.Operation.TheVariants.{PutIn}
 use Rattle.machine.proofs.Ride.{Ride, anew, beside, reset, begin, step, field, m_is, u_is, length_is, call, damage, same, left, rec}

@@ -1,15 +1,12 @@
 -- THE RIDES: when a ride holds, and the one theorem that all of them hold, computed by the definitions.
-use mathlib.Core.Path.{◌≡◌, refl}
-use Prim.Native.Nat.{ℕ, zero, suc, ◌+◌, ◌-◌, ◌*◌, ◌/◌}
-use mathlib.Core.Bool.{Bool, true, false, ◌&&◌, ◌||◌, not}
+use Prim.Native.Nat.{ℕ, zero, suc, ◌+◌, ◌-◌, ◌*◌}
+use mathlib.Core.Bool.{Bool, true, false, ◌&&◌, ◌||◌}
 use mathlib.Core.List.{List, [], ◌∷◌, ◌++◌}
 use lib.Dec.{ltb, leb, eqb}
-use lib.ListN.{length, get_or, set, take, drop, replicate}
+use lib.ListN.{length, set, take, replicate}
 use Rattle.terms.specs.declared.Rec.{Rec}
 use Rattle.terms.specs.declared.Links.{Links}
 use Rattle.terms.specs.declared.Path.{Path}
-use Rattle.terms.specs.declared.Job.{Job}
-use Rattle.terms.specs.declared.Operation.{Operation}
 use Rattle.terms.specs.declared.Operation.TheVariants.{LookUp, PutIn, TakeOut}
 use Rattle.terms.specs.declared.Goal.{Goal}
 use Rattle.terms.specs.declared.Goal.TheVariants.{Serve, Settle}
@@ -25,7 +22,6 @@ use Rattle.terms.specs.declared.Work.{Work}
 use Rattle.terms.specs.declared.Work.TheVariants.{Idle, Busy}
 use Rattle.terms.specs.declared.Task.{Task}
 use Rattle.terms.specs.declared.State.{State}
-use Rattle.terms.specs.declared.Figures.{Figures}
 use Rattle.terms.specs.declared.Answer.{Answer}
 use Rattle.machine.specs.Choice.{if_b}
 use Rattle.machine.specs.Record.{in_tree, sentinel, number_fits, price_fits, fare_marks, inner_marks, is_link, is_leaf, is_inner, plain_form, entry_form, well_formed, linked, level, is_fare, leads, still, other}
@@ -34,7 +30,7 @@ use Rattle.machine.specs.Answers.{number_of, price_of}
 use Rattle.terms.specs.Task.{idle_task, is_busy}
 use Rattle.machine.specs.State.{task_at, with_task, fresh_state, settling, busy_tasks, count_open, sound, job_fits, ask_fits}
 use Rattle.machine.specs.Walk.{sought, at_leaf, serve_arrival, outranks, settle_arrival, arrival, walk_to, walk_from, walk_on}
-use Rattle.machine.specs.Commit.{Did, reading, commit_if}
+use Rattle.machine.specs.Commit.{reading, commit_if}
 use Rattle.machine.specs.PutIn.{leaf_of, inner_rank, put_grounds, put_test, put_writes, put_turn, put_room, put_limit, put_commit, read_put_parent, read_put_leaf, put_step}
 use Rattle.machine.specs.TakeOut.{take_apart, take_leaf, take_grounds, take_test, take_room, take_commit, read_take_grand, read_take_parent, read_take_left, read_take_right, take_step}
 use Rattle.machine.specs.Rows.{parent_row, level_row, sided, link_at, around_of, rotate_writes, double_writes}
@@ -43,7 +39,7 @@ use Rattle.machine.specs.Step.{Left, phase_step, step_of, carried, step_work}
 use Rattle.machine.specs.Contract.{after}
 use Rattle.machine.specs.Reach.{reachable, reach_from, reach, larger, deeper}
 use Rattle.machine.specs.Allowed.{fibonacci, at_most, allowed_rank}
-use Rattle.machine.specs.Calls.{reset_of, begin_of, abandon_of, tidy_of, figures_of, list_of, Listed, empty_table, abandoned_out, sweep, tidy_reached, figures_reached, list_reached}
+use Rattle.machine.specs.Calls.{reset_of, begin_of, abandon_of, tidy_of, figures_of, list_of, empty_table, abandoned_out, sweep, tidy_reached, figures_reached, list_reached}
 use Rattle.machine.specs.CallFile.{two, four, no_job, begins, steps as stepsRecord, abandons, tidies, operation_of, by_operation, decode, run_of, serve, printed, line_of, end_line, record_of, lines_from, program_of}
 use Rattle.machine.proofs.Ride.{From, anew, onward, beside, Act, reset, begin, step, abandon, tidy, figures, list, Hurting, field, m_is, u_is, length_is, task_is, Line, call, damage, Outcome, After, same, left, Ride, busy}
 use Rattle.machine.proofs.DocumentRides.{document_rides}

@@ -14,7 +14,7 @@ use Rattle.machine.specs.Choice.{if_b}
 use Rattle.machine.specs.Record.{top_number, free_rec}
 use Rattle.machine.specs.Table.{view, Write, fill, puts, length_fits, slots, count_free}
 use Rattle.terms.specs.Task.{begun, abandoned, is_busy, work_settles}
-use Rattle.machine.specs.State.{task_at, with_task, one, busy_tasks, count_open, sound, ask_fits, fresh_state}
+use Rattle.machine.specs.State.{task_at, with_task, busy_tasks, count_open, sound, ask_fits, fresh_state}
 use Rattle.machine.specs.PutIn.{inner_of}
 use Rattle.machine.specs.Step.{Left, same, counted}
 use Rattle.machine.specs.Contract.{after}

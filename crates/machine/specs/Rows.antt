@@ -1,5 +1,5 @@
 -- SETTLING: the settling table, and the writes of each row. `side` is true where x is z's left child: both mirror forms are one text.
-use Rattle.std.specs.Prelude.{ℕ, ◌+◌, ◌-◌, Bool, true, not, List, [], ◌∷◌, ltb, leb, eqb}
+use Rattle.std.specs.Prelude.{ℕ, ◌+◌, ◌-◌, Bool, not, List, [], ◌∷◌, ltb, leb, eqb}
 use Rattle.terms.specs.declared.Rec.{Rec}
 use Rattle.terms.specs.declared.Links.{Links}
 use Rattle.terms.specs.declared.Path.{Path}

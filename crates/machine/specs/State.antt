@@ -6,7 +6,7 @@ use Rattle.terms.specs.declared.Operation.TheVariants.{LookUp, PutIn, TakeOut}
 use Rattle.terms.specs.declared.Task.{Task}
 use Rattle.terms.specs.declared.State.{State}
 use Rattle.machine.specs.Record.{number_fits, price_fits}
-use Rattle.terms.specs.Task.{idle_task, busy, work_settles, is_busy}
+use Rattle.terms.specs.Task.{idle_task, work_settles, is_busy}
 
 -- task i
 abbrev pub task_at : State → ℕ → Task

@@ -44,16 +44,16 @@ owes-255 : (rl rm : ℕ) → ((rl ≡ 0) × (rm ≡ 255)) ⊎ ((rl ≡ 255) × (
 owes-255 rl rm (inl e) = owes-sentinel rl rm ∙ rw (e.0, e.1) (omega (arith, share_0, share_sentinel))
 owes-255 rl rm (inr e) = owes-sentinel rl rm ∙ rw (e.0, e.1) (omega (arith, share_0, share_sentinel))
 
-put-phi : (c : Ctx) (h kh ph rh a l m ResultKind kl pl rl km pm rm : ℕ) → rank_c c ≤ 255 → ResultKind ≤ rank_c c → InnerRank rh ResultKind → ((rl ≡ 0) × (rm ≡ rh)) ⊎ ((rl ≡ rh) × (rm ≡ 0))
-    → phi (plug c (node a km ResultKind (leaf l kl pl rl) (leaf m km pm rm))) ≤ phi (plug c (leaf h kh ph rh)) + 2
-put-phi c h kh ph rh a l m ResultKind kl pl rl km pm rm lim up (inl e) r =
-    let o : owes ResultKind rl rm ≡ 2 = rw e.1 (owes-255 rl rm (elim r [ inl q ↦ inl (q.0, q.1 ∙ e.0) | inr q ↦ inr (q.0 ∙ e.0, q.1) ])) in
-    let g : phi_c ResultKind c ≡ phi_c rh c = ap (λ q. phi_c q c) (e.1 ∙ sym e.0) in
-    omega (arith, phi-plug c (node a km ResultKind (leaf l kl pl rl) (leaf m km pm rm)), phi-plug c (leaf h kh ph rh), o, g)
-put-phi c h kh ph rh a l m ResultKind kl pl rl km pm rm lim up (inr e) r =
-    let o : owes ResultKind rl rm ≡ 1 = elim r [ inl q ↦ rw (e.1, q.0, q.1, e.0) owes-1 | inr q ↦ rw (e.1, q.0, q.1, e.0) owes-1 ] in
-    let g : phi_c ResultKind c ≤ phi_c rh c + 1 = rw (e.1, e.0) (rw fib-2 at (raise c 0 (omega (arith, e.1)) lim (omega arith))) in
-    omega (arith, phi-plug c (node a km ResultKind (leaf l kl pl rl) (leaf m km pm rm)), phi-plug c (leaf h kh ph rh), o, g)
+put-phi : (c : Ctx) (h kh ph rh a l m RK kl pl rl km pm rm : ℕ) → rank_c c ≤ 255 → RK ≤ rank_c c → InnerRank rh RK → ((rl ≡ 0) × (rm ≡ rh)) ⊎ ((rl ≡ rh) × (rm ≡ 0))
+    → phi (plug c (node a km RK (leaf l kl pl rl) (leaf m km pm rm))) ≤ phi (plug c (leaf h kh ph rh)) + 2
+put-phi c h kh ph rh a l m RK kl pl rl km pm rm lim up (inl e) r =
+    let o : owes RK rl rm ≡ 2 = rw e.1 (owes-255 rl rm (elim r [ inl q ↦ inl (q.0, q.1 ∙ e.0) | inr q ↦ inr (q.0 ∙ e.0, q.1) ])) in
+    let g : phi_c RK c ≡ phi_c rh c = ap (λ q. phi_c q c) (e.1 ∙ sym e.0) in
+    omega (arith, phi-plug c (node a km RK (leaf l kl pl rl) (leaf m km pm rm)), phi-plug c (leaf h kh ph rh), o, g)
+put-phi c h kh ph rh a l m RK kl pl rl km pm rm lim up (inr e) r =
+    let o : owes RK rl rm ≡ 1 = elim r [ inl q ↦ rw (e.1, q.0, q.1, e.0) owes-1 | inr q ↦ rw (e.1, q.0, q.1, e.0) owes-1 ] in
+    let g : phi_c RK c ≤ phi_c rh c + 1 = rw (e.1, e.0) (rw fib-2 at (raise c 0 (omega (arith, e.1)) lim (omega arith))) in
+    omega (arith, phi-plug c (node a km RK (leaf l kl pl rl) (leaf m km pm rm)), phi-plug c (leaf h kh ph rh), o, g)
 
 renew-phi : (s' : ℕ) (t : Tree) → (phi (renew s' t) ≡ phi t) × (rank (renew s' t) ≡ rank t)
 renew-phi s' (leaf s k pr rk) = (refl, refl)
@@ -76,8 +76,8 @@ take_phi c b p kp rp l kl pl rl s' S lim up hs =
     ]
 
 pub act_phi : {v w : View} {kind : Kind} {t t' : Tree} → Act v kind t w t' → Shape t → phi t' ≤ phi t + pays kind
-act_phi (puts c k p h kh ph rh a l m ResultKind kl pl rl km pm rm fa fl fm al lm r two fits on) f =
-    put-phi c h kh ph rh a l m ResultKind kl pl rl km pm rm (shape_limit c (leaf h kh ph rh) f) fits.there.under r (two-ranks k p kh ph rh kl pl rl km pm rm two)
+act_phi (puts c k p h kh ph rh a l m RK kl pl rl km pm rm fa fl fm al lm r two fits on) f =
+    put-phi c h kh ph rh a l m RK kl pl rl km pm rm (shape_limit c (leaf h kh ph rh) f) fits.there.under r (two-ranks k p kh ph rh kl pl rl km pm rm two)
 act_phi (takes c b p kp rp l kl pl rl s' S free fare) f =
     let t = shape_at c (join b p kp rp (leaf l kl pl rl) S) f in
     let r = ranked_join b p kp rp (leaf l kl pl rl) S t.ranks in

@@ -27,7 +27,6 @@ use Rattle.progress.proofs.Sees.{Sees, sees_pos}
 use Rattle.progress.specs.Alone.{Ends, answer_of}
 use Rattle.progress.specs.Budget.{EndAnswer, settle_budget}
 use Rattle.progress.specs.Work.{work}
-use Rattle.routes.specs.Route.{last}
 use Rattle.steps.specs.Does.{EndOf, Quiet, leaves, settled, stops, turn_of_put}
 use Rattle.terms.specs.Task.{busy, goal_of}
 use Rattle.terms.specs.declared.Answer.{Answer}

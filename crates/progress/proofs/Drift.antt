@@ -40,7 +40,6 @@ use Rattle.terms.specs.declared.TakeStage.{TakeStage}
 use Rattle.terms.specs.declared.TakeStage.TheVariants.{TakeCommit, TakeGrand, TakeLeft, TakeParent, TakeRight}
 use Rattle.terms.specs.declared.Turn.{Turn}
 use Rattle.terms.specs.declared.Turn.TheVariants.{Done, Hurt, Next}
-use Rattle.trees.specs.Tree.{parent}
 
 -- with d steps left at most
 abbrev pub Stale : View → ℕ → Phase → ℕ → Type 0

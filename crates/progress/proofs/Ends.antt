@@ -6,7 +6,6 @@ use Rattle.history.specs.History.{step}
 use Rattle.history.specs.Ledger.{Point, advance, goes}
 use Rattle.history.specs.Machine.{Machine}
 use Rattle.progress.specs.Alone.{Ends, answer_after, answer_of}
-use Rattle.routes.specs.Route.{last}
 
 pub ends_now : {M : Machine} {p : Point} {i limit : ℕ} {E : ℕ → Type 0} → E (answer_of M p i) → 1 ≤ limit → Ends M p i limit E
 unfolding goes

@@ -12,7 +12,7 @@ use Rattle.demand3.proofs.Demand3.{rich}
 use Rattle.demand3.proofs.Rich.{Rich}
 use Rattle.demand3.specs.Demand3.{figures_at}
 use Rattle.history.specs.History.{Ask}
-use Rattle.history.specs.Ledger.{Point, ends, history}
+use Rattle.history.specs.Ledger.{Point, history}
 use Rattle.history.specs.Machine.{real}
 use Rattle.machine.specs.State.{count_open, task_at}
 use Rattle.machine.specs.Table.{View, view}

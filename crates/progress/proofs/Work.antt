@@ -84,29 +84,29 @@ work-flat : (b : Bool) (q y x z kx ky kz ry rx rz : ℕ) (W A B S : Tree)
 work-flat b q y x z kx ky kz ry rx rz W A B S = omega (arith, work-join b q y ky ry (join b x kx rx W A) (join b z kz rz B S), work-join b ry x kx rx W A, work-join b ry z kz rz B S)
 
 -- a put-in: the two leaves are not level, the new inner record has rank 1 or is a sentinel
-put-new : (ResultKind rh rl rm : ℕ) → InnerRank rh ResultKind → ((rl ≡ 0) × (rm ≡ rh)) ⊎ ((rl ≡ rh) × (rm ≡ 0)) → (weight ResultKind rl ≡ 0) × (weight ResultKind rm ≡ 0)
-put-new ResultKind rh rl rm (inl e) r =
+put-new : (RK rh rl rm : ℕ) → InnerRank rh RK → ((rl ≡ 0) × (rm ≡ rh)) ⊎ ((rl ≡ rh) × (rm ≡ 0)) → (weight RK rl ≡ 0) × (weight RK rm ≡ 0)
+put-new RK rh rl rm (inl e) r =
     elim r [
-      | inl q ↦ (weight-apart ResultKind rl (λ z. omega (arith, q.0, e.1)), rw (q.1, e.0) (weight-top ResultKind))
-      | inr q ↦ (rw (q.0, e.0) (weight-top ResultKind), weight-apart ResultKind rm (λ z. omega (arith, q.1, e.1)))
+      | inl q ↦ (weight-apart RK rl (λ z. omega (arith, q.0, e.1)), rw (q.1, e.0) (weight-top RK))
+      | inr q ↦ (rw (q.0, e.0) (weight-top RK), weight-apart RK rm (λ z. omega (arith, q.1, e.1)))
     ]
-put-new ResultKind rh rl rm (inr e) r =
+put-new RK rh rl rm (inr e) r =
     elim r [
-      | inl q ↦ (weight-apart ResultKind rl (λ z. omega (arith, q.0, e.1)), weight-apart ResultKind rm (λ z. omega (arith, q.1, e.0, e.1)))
-      | inr q ↦ (weight-apart ResultKind rl (λ z. omega (arith, q.0, e.0, e.1)), weight-apart ResultKind rm (λ z. omega (arith, q.1, e.1)))
+      | inl q ↦ (weight-apart RK rl (λ z. omega (arith, q.0, e.1)), weight-apart RK rm (λ z. omega (arith, q.1, e.0, e.1)))
+      | inr q ↦ (weight-apart RK rl (λ z. omega (arith, q.0, e.0, e.1)), weight-apart RK rm (λ z. omega (arith, q.1, e.1)))
     ]
 
-put-top : (q ResultKind rh : ℕ) → InnerRank rh ResultKind → weight q ResultKind ≤ adds_to (lv q ResultKind)
-put-top q ResultKind rh r = go (lv q ResultKind) refl
+put-top : (q RK rh : ℕ) → InnerRank rh RK → weight q RK ≤ adds_to (lv q RK)
+put-top q RK rh r = go (lv q RK) refl
   where
-    go : (b : Bool) → lv q ResultKind ≡ b → weight q ResultKind ≤ adds_to b
-    go true e = elim r [ inl h ↦ (let z : weight q ResultKind ≡ 0 = rw h.1 (weight-top q) in omega arith) | inr h ↦ omega (arith, weight-le q ResultKind, h.1) ]
-    go false e = omega (arith, weight-not q ResultKind (λ y. let z : ◌≡◌ {A = ℕ} 0 1 = cc in omega arith))
+    go : (b : Bool) → lv q RK ≡ b → weight q RK ≤ adds_to b
+    go true e = elim r [ inl h ↦ (let z : weight q RK ≡ 0 = rw h.1 (weight-top q) in omega arith) | inr h ↦ omega (arith, weight-le q RK, h.1) ]
+    go false e = omega (arith, weight-not q RK (λ y. let z : ◌≡◌ {A = ℕ} 0 1 = cc in omega arith))
 
 pub act_work : {v w : View} {kind : Kind} {t t' : Tree} (act : Act v kind t w t') → Shape t → work 255 t' + takes_off kind ≤ work 255 t + adds_to (level_put act)
-act_work (puts c k p h kh ph rh a l m ResultKind kl pl rl km pm rm fa fl fm al lm r two fits on) f =
-    let n = put-new ResultKind rh rl rm r (two-ranks k p kh ph rh kl pl rl km pm rm two) in
-    omega (arith, work-plug c (node a km ResultKind (leaf l kl pl rl) (leaf m km pm rm)), work-plug c (leaf h kh ph rh), n.0, n.1, put-top (rank_c c) ResultKind rh r)
+act_work (puts c k p h kh ph rh a l m RK kl pl rl km pm rm fa fl fm al lm r two fits on) f =
+    let n = put-new RK rh rl rm r (two-ranks k p kh ph rh kl pl rl km pm rm two) in
+    omega (arith, work-plug c (node a km RK (leaf l kl pl rl) (leaf m km pm rm)), work-plug c (leaf h kh ph rh), n.0, n.1, put-top (rank_c c) RK rh r)
 act_work (takes c b p kp rp l kl pl rl s' S free fare) f =
     let t = shape_at c (join b p kp rp (leaf l kl pl rl) S) f in
     let r = ranked_join b p kp rp (leaf l kl pl rl) S t.ranks in

@@ -5,7 +5,6 @@ use mathlib.Core.List.{List}
 use Prim.Native.Nat.{ℕ, suc, ◌+◌, ◌-◌, ◌≤◌}
 use native.Mathlib.Omega.{arith}
 use Rattle.terms.specs.declared.Rec.{Rec}
-use Rattle.machine.specs.Record.{level}
 use Rattle.machine.specs.State.{one}
 use Rattle.machine.specs.Reach.{Tree, leaf, Reached, hurt, reached, join_left, join_right, larger, deeper}
 use Rattle.machine.proofs.Choice.{if_elim}

@@ -1,5 +1,6 @@
 // What the entry reaches: its counts by a walk down the links, the sweep of what is not reached, and the fares in their order.
 #![tactic(auto)]
+
 ghost use Rattle.std.specs.Prelude.{◌≡◌, ◌&&◌, ◌+◌, ◌-◌, ◌*◌, ◌≤◌, ◌<◌, eqb, length, get_or, replicate};
 ghost use Rattle.machine.specs.Contract.{Sized};
 ghost use Rattle.machine.specs.Record.{in_tree, is_fare, linked};

@@ -1,21 +1,18 @@
 -- "A refusal changes nothing": reset, begin, abandon, tidy and list, for every table, state and number handed in.
 use mathlib.Core.Path.{◌≡◌, refl}
-use mathlib.Core.Bool.{Bool, true, false, not}
-use mathlib.Core.List.{List, [], ◌∷◌}
-use Prim.Native.Nat.{ℕ, ◌≤◌, ◌<◌}
+use mathlib.Core.List.{List}
+use Prim.Native.Nat.{ℕ, ◌≤◌}
 use native.Mathlib.Omega.{arith}
 use Rattle.terms.specs.declared.Job.{Job}
 use Rattle.terms.specs.declared.Operation.{Operation}
 use Rattle.terms.specs.declared.Task.{Task}
 use Rattle.terms.specs.declared.State.{State}
-use Rattle.terms.specs.declared.Answer.{Answer}
 use Rattle.terms.specs.declared.Out.{Out}
 use Rattle.terms.specs.declared.Report.{Report}
-use Rattle.machine.specs.Choice.{if_b}
 use Rattle.machine.specs.Answers.{number_of}
 use Rattle.machine.specs.Contract.{after}
-use Rattle.machine.specs.Step.{Left, same}
-use Rattle.machine.specs.Reach.{Reached, hurt, reached, reach}
+use Rattle.machine.specs.Step.{Left}
+use Rattle.machine.specs.Reach.{Reached, hurt, reached}
 use Rattle.machine.specs.Calls.{Listed, no_figures, reset_of, begin_of, abandoned_out, abandon_of, tidy_reached, tidy_of, figures_reached, figures_of, list_reached, list_of}
 use Rattle.machine.proofs.Choice.{if_elim}
 

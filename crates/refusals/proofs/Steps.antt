@@ -1,12 +1,11 @@
 -- A refused step leaves the table, m, u and the other tasks; 15 and 16 make its task idle, every other refusal changes nothing.
-use mathlib.Core.Path.{◌≡◌, refl, sym, ap, ◌∙◌}
-use mathlib.Core.Bool.{Bool, true, false, not, ◌&&◌}
-use mathlib.Core.List.{List, [], ◌∷◌}
+use mathlib.Core.Path.{◌≡◌, refl}
+use mathlib.Core.Bool.{Bool, false}
+use mathlib.Core.List.{List, []}
 use mathlib.Core.Logic.{◌⊎◌, inl, inr}
-use Prim.Native.Nat.{ℕ, zero, suc, ◌+◌, ◌≤◌, ◌<◌}
+use Prim.Native.Nat.{ℕ, ◌≤◌, ◌<◌}
 use native.Mathlib.Nat.{add-zero}
 use native.Mathlib.Omega.{arith}
-use lib.Dec.{eqb}
 use borrow.Author.Tests.{ne_eqb}
 use Rattle.terms.specs.declared.Rec.{Rec}
 use Rattle.terms.specs.declared.Links.{Links}
@@ -38,7 +37,6 @@ use Rattle.terms.specs.declared.ParentRow.TheVariants.{Outranked, Promote, Wider
 use Rattle.terms.specs.declared.LevelRow.{LevelRow}
 use Rattle.terms.specs.declared.LevelRow.TheVariants.{NoRow, RotateOne, RotateTwo, DoubleRotation}
 use Rattle.terms.specs.Task.{idle_task, restarted, no_grand}
-use Rattle.machine.specs.Choice.{if_b}
 use Rattle.machine.specs.Answers.{number_of}
 use Rattle.machine.specs.State.{with_task}
 use Rattle.machine.specs.Table.{View, view, slots, Write, puts}

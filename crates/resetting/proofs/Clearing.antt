@@ -1,19 +1,11 @@
 -- The loop that clears a table.
-use mathlib.Core.Path.{◌≡◌, refl, ◌∙◌}
-use mathlib.Core.Bool.{Bool, true, false, not}
+use mathlib.Core.Path.{◌≡◌, ◌∙◌}
 use mathlib.Core.List.{List, ◌++◌, append-nil}
 use Prim.Native.Nat.{ℕ, ◌+◌, ◌≤◌, ◌<◌}
 use lib.ListN.{length, replicate, drop, set}
 use lib.Seq.{drop-length}
 use borrow.Author.Fill.{fill_more}
 use native.Mathlib.Omega.{arith}
-use Rattle.terms.specs.declared.State.{State}
-use Rattle.terms.specs.declared.Answer.TheVariants.{Accepted, Length}
-use Rattle.machine.specs.Choice.{if_b}
-use Rattle.machine.specs.Table.{length_fits}
-use Rattle.machine.specs.State.{fresh_state}
-use Rattle.machine.specs.Contract.{after}
-use Rattle.machine.specs.Calls.{empty_table, reset_of}
 
 -- the loop that clears: i numbers are 0, the rest is as before
 module _ (i l : ℕ) (t t₀ : List ℕ) (e : t ≡ replicate i 0 ++ drop i t₀) (el : length t₀ ≡ l) where

@@ -1,5 +1,6 @@
 // Reset.
 #![tactic(auto)]
+
 ghost use Rattle.std.specs.Prelude.{◌≡◌, ◌+◌, ◌-◌, ◌*◌, ◌/◌, ◌≤◌, ◌<◌, length, replicate};
 ghost use Rattle.machine.specs.Contract.{Sized, after};
 ghost use Rattle.machine.specs.Calls.{empty_table, reset_of};

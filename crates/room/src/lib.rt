@@ -1,5 +1,6 @@
 // Room: the lowest-numbered free slots, and how many there are.
 #![tactic(auto)]
+
 ghost use Rattle.std.specs.Prelude.{◌≡◌, ◌+◌, ◌-◌, ◌*◌, ◌≤◌, ◌<◌, eqb, length};
 ghost use Rattle.machine.specs.Choice.{if_b};
 ghost use Rattle.machine.specs.Contract.{Sized};

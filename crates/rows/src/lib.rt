@@ -1,5 +1,6 @@
 // The settling table: which row fits, and the writes of each row. Both mirror forms are one text.
 #![tactic(auto)]
+
 ghost use Rattle.std.specs.Prelude.{◌≡◌, ◌+◌, ◌-◌, ◌*◌, ◌≤◌, ◌<◌};
 ghost use Rattle.machine.specs.Contract.{Sized};
 ghost use Rattle.machine.specs.Table.{puts};

@@ -1,6 +1,6 @@
 -- The rows of a settling commit's change, each from what the code knows there.
-use mathlib.Core.Path.{◌≡◌, refl}
-use mathlib.Core.Bool.{Bool, true, false, not}
+use mathlib.Core.Path.{◌≡◌}
+use mathlib.Core.Bool.{Bool}
 use mathlib.Core.List.{List}
 use Prim.Native.Nat.{ℕ, ◌+◌, ◌-◌, ◌≤◌, ◌<◌}
 use lib.Dec.{eqb}
@@ -22,7 +22,7 @@ use Rattle.room.specs.declared.Triple.{Triple}
 use Rattle.room.specs.Found.{TwoSlots, ThreeSlots}
 use Rattle.machine.specs.Choice.{if_b}
 use Rattle.machine.specs.Table.{view, puts, Write, slot1}
-use Rattle.machine.specs.Commit.{Did, calm}
+use Rattle.machine.specs.Commit.{calm}
 use Rattle.machine.specs.Contract.{acted, played}
 use Rattle.machine.specs.Rows.{promote_writes, rotate_writes, double_writes}
 use Rattle.machine.specs.Settling.{settled, promote_do, rotate_do, rotate_two_do, double_do, rotate_by, double_by, promote_by}

@@ -1,5 +1,6 @@
 // Settling: the readings, the grounds and the test of a commit, and the changes by their rows.
 #![tactic(auto)]
+
 ghost use Rattle.std.specs.Prelude.{◌≡◌, ◌+◌, ◌-◌, ◌*◌, ◌≤◌, ◌<◌};
 ghost use Rattle.terms.specs.declared.LevelRow.TheVariants.{DoubleRotation};
 ghost use Rattle.machine.specs.Contract.{Sized, acted, played};

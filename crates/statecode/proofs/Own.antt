@@ -226,9 +226,6 @@ pub part_task : (w : List ℕ) (i : ℕ) → i < 8 → task_by (take (length w -
 unfolding state_by
 part_task w i h = rw (part_all w (15 * i)) (sym (task_alone 8 w i h))
 
-pub part_fits : (w : List ℕ) (i : ℕ) → length w ≡ 122 → i < 8 → 15 ≤ length (take (length w - 15 * i) (drop (15 * i) w))
-part_fits w i e h = rw (part_all w (15 * i), length-drop (15 * i) w) (omega arith)
-
 -- a part's row, as the code goes through them
 module _ (w : List ℕ) (i : ℕ) (h : i < 8) (e : is_state w ≡ own_rows (8 - i) (drop (15 * i) w)) (b : Bool) (eb : b ≡ own_row (take (length w - 15 * i) (drop (15 * i) w))) where
   own-part : b ≡ own_row (drop (15 * i) w)

@@ -97,9 +97,5 @@ pub copy_more :
     → set w (from + i) (get_or r i 0) ≡ paste w₀ from r (i + 1)
 copy_more w w₀ r from i e h g = rw (e, add-one i) (paste-suc w₀ from r i 0 h g)
 
--- the last task's part
-pub last_fits : (w : List ℕ) → length w ≡ 122 → 15 ≤ length (take (length w - 105) (drop 105 w))
-last_fits w h = rw (part_all w 105, length-drop 105 w) (omega arith)
-
 pub length_mapped : (X Y : Type 0) (f : X → Y) (l : List X) (n : ℕ) → length (map f l) ≡ n → length l ≡ n
 length_mapped X Y f l n e = sym (length-map l f) ∙ e

@@ -67,16 +67,16 @@ inner-rank h (inl m) = inl (m.2, rw (eq-eqb h.rank 255 m.2))
 inner-rank h (inr m) = inr (m.2, rw (ne_eqb h.rank 255 (λ e. omega (arith, m.2))))
 
 -- "both have rank 1", and level
-put-level : (q rh ResultKind : ℕ) → InnerRank rh ResultKind → (eqb q 1 && eqb ResultKind 1) ≡ lv q ResultKind
+put-level : (q rh RK : ℕ) → InnerRank rh RK → (eqb q 1 && eqb RK 1) ≡ lv q RK
 unfolding lv
-put-level q rh ResultKind (inl h) = rw h.1 (neither (eqb q 1) (eqb q 255))
+put-level q rh RK (inl h) = rw h.1 (neither (eqb q 1) (eqb q 255))
   where
     neither : (a b : Bool) → (a && eqb 255 1) ≡ (b && not (eqb 255 255))
     neither true true = refl
     neither true false = refl
     neither false true = refl
     neither false false = refl
-put-level q rh ResultKind (inr h) = rw h.1 refl
+put-level q rh RK (inr h) = rw h.1 refl
 
 -- a leaf of the view, by its links
 pub leaf_marks : (n : ℕ) (r : Rec) → Plain n r → r.left ≡ 0 → LeafMarks r.number r.price r.rank

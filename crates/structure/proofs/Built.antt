@@ -141,7 +141,7 @@ module _ (n : ℕ) (v : View) (t : Tree) (i : Carries v t) (sh : Shape t) (b : B
 
   pub is_built : Built n v
   is_built = record {
-    in_tree_lem = λ x. (is_reached x, λ g. is_in_tree g.0 x (from g.0 x g.1));
+    in_tree = λ x. (is_reached x, λ g. is_in_tree g.0 x (from g.0 x g.1));
     once = λ w u x g h. is_once w u x (from w x g) (from u x h);
     no-ones-child = back;
     order = λ w u side x y g nz h. is_ordered w u side x y (from w x g) nz h;

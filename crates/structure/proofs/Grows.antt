@@ -101,6 +101,6 @@ way_on v a (d ∷ w) b side g n = (g.0, way_on v (link_on d (v a)) w b side g.1 
 pub links-in_use : {n : ℕ} {v : View} → Built n v → (x : ℕ) → (v x).state ≡ 1 → (side : Bool) → (v (link_on side (v x))).state ≡ 1
 links-in_use {v = v} b x one side =
     elim (same_or (link_on side (v x)) 0) [
-      | inl e ↦ subst (λ y. (v y).state ≡ 1) (sym e) ((b.in_tree_lem 0).1 ([], refl))
-      | inr n ↦ (let g = (b.in_tree_lem x).0 one in (b.in_tree_lem (link_on side (v x))).1 (g.0 ++ (side ∷ []), way_on v 0 g.0 x side g.1 n))
+      | inl e ↦ subst (λ y. (v y).state ≡ 1) (sym e) ((b.in_tree 0).1 ([], refl))
+      | inr n ↦ (let g = (b.in_tree x).0 one in (b.in_tree (link_on side (v x))).1 (g.0 ++ (side ∷ []), way_on v 0 g.0 x side g.1 n))
     ]

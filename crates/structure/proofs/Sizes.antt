@@ -52,8 +52,8 @@ Sizes (takes_out k) old new = old ≡ new + 2
 Sizes settles old new = new ≡ old
 
 act_size : {v w : View} {kind : Kind} {t t' : Tree} → Act v kind t w t' → Sizes kind (size t) (size t')
-act_size (puts c k p h kh ph rh a l m ResultKind kl pl rl km pm rm fa fl fm al lm r two fits on) =
-    omega (arith, size-plug c (leaf h kh ph rh) (node a km ResultKind (leaf l kl pl rl) (leaf m km pm rm)))
+act_size (puts c k p h kh ph rh a l m RK kl pl rl km pm rm fa fl fm al lm r two fits on) =
+    omega (arith, size-plug c (leaf h kh ph rh) (node a km RK (leaf l kl pl rl) (leaf m km pm rm)))
 act_size (takes c b p kp rp l kl pl rl s' S free fare) =
     omega (arith, size-plug c (join b p kp rp (leaf l kl pl rl) S) (renew s' S), size-join b p kp rp (leaf l kl pl rl) S, size-renew s' S)
 act_size (promotes c b z z' key r X S free lx near up lim) =

@@ -49,7 +49,7 @@ goes-long {p} s (c ∷ cs) = goes-long {p = advance real p c} (keeps s c) cs ∙
 
 undamaged : (n : ℕ) (v : View) → Built n v → ReachDamaged v n → ⊥
 undamaged n v b (not-well-formed w x g d) = d (b.formed w x g)
-undamaged n v b (in-state-2 w x g d) = omega (arith, d, (b.in_tree_lem x).1 (w, g))
+undamaged n v b (in-state-2 w x g d) = omega (arith, d, (b.in_tree x).1 (w, g))
 undamaged n v b (reached-twice w u x d g h) = d (b.once w u x g h)
 
 module _ (t : List ℕ) (st : State) (cs : List Ask) (n : ℕ) (e : length t ≡ 6 * n) (least : 8 ≤ n) (most : n ≤ 4096) where

@@ -12,7 +12,7 @@ view_of p = view (slots p.table) p.table
 
 pub record Built (n : ℕ) (v : View) : Type 0 where
   -- "1 in the tree": a slot is in state 1 exactly where a way of links leads to it from the entry
-  pub in_tree_lem : (x : ℕ) → ((v x).state ≡ 1) ↔ ((w : Way) × Goes v 0 w x)
+  pub in_tree : (x : ℕ) → ((v x).state ≡ 1) ↔ ((w : Way) × Goes v 0 w x)
   -- each is reached once: no two ways lead to it
   pub once : (w u : Way) (x : ℕ) → Goes v 0 w x → Goes v 0 u x → w ≡ u
   -- "slot 0 is the entry and is nobody's child": no way comes back to it

@@ -23,7 +23,6 @@ use Rattle.machine.specs.Step.{Left}
 use Rattle.machine.specs.Reach.{Reached, hurt, reached}
 use Rattle.machine.specs.Calls.{abandoned_out, tidy_reached, tidy_of}
 use Rattle.machine.proofs.Choice.{if_elim}
-use Rattle.beginning.proofs.Rows.{u_small}
 use Rattle.statecode.specs.declared.GotState.{GotState}
 use Rattle.statecode.specs.declared.Walker.{Walker}
 use Rattle.statecode.specs.Code.{goal_number, no_path, no_links, places, phase_row, encode, task_by, state_by, is_state, decode}
@@ -31,7 +30,7 @@ use Rattle.statecode.specs.Own.{storing}
 use Rattle.statecode.specs.Walking.{walker_by, no_notes, put_first}
 use Rattle.statecode.proofs.Inverse.{encode-decode}
 use Rattle.statecode.proofs.Walking.{task_row, phase_row_lem, walker-stored, walker-own}
-use Rattle.tiebeamer.proofs.ByNumbers.{m_by, u_by}
+use Rattle.tiebeamer.proofs.ByNumbers.{m_by, u_by, u_bounded}
 
 -- whether task i is busy: its place 0
 module _ (w : List ℕ) (i : ℕ) (h : i < 8) (k : Walker) (ek : k ≡ walker_by (drop (15 * i) w)) where
@@ -78,7 +77,7 @@ module _ (w : List ℕ) (i : ℕ) (k : Task) (b : Bool) (eb : b ≡ work_settles
   let_go e es = simp (← eb, e) (rw (es, ex, m_by w, u_by w) refl)
 
 pub room_for_one : (w : List ℕ) (b : Bool) → b ≡ sound (state_by w) → not b ≡ false → get_or w 121 0 ≤ 1000000
-room_for_one w b eb e = rw (u_by w) (u_small (state_by w) b eb e)
+room_for_one w b eb e = u_bounded w (sym eb ∙ not-false b e)
 
 -- tidy leaves the state as it is
 tidied-state : (t : List ℕ) (st : State) (r : Reached) → (tidy_reached t st r).state ≡ st

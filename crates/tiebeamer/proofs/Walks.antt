@@ -33,7 +33,6 @@ use Rattle.machine.proofs.Writes.{calmly, quiet}
 use Rattle.walk.specs.declared.Arrival.{Arrival}
 use Rattle.walk.specs.declared.Arrival.TheVariants.{Lost, On, Puts, Takes, Settles, Ends}
 use Rattle.walk.specs.Arrived.{turn_at}
-use Rattle.stepping.proofs.Rows.{damaged_row, goes-row}
 use Rattle.statecode.specs.declared.Walker.{Walker}
 use Rattle.statecode.specs.Code.{no_links, places, phase_row, work_row, goal_number, goal_by, job_by, path_by, phase_by, task_by, state_by, is_state}
 use Rattle.statecode.specs.Own.{storing}
@@ -41,7 +40,7 @@ use Rattle.statecode.specs.Walking.{no_notes, put_first}
 use Rattle.statecode.proofs.Own.{eight, later, ends}
 use Rattle.statecode.proofs.Walking.{task_row, phase_row_lem, row_at, walker-stored, walker-own}
 use Rattle.tiebeamer.specs.Numbers.{out_by, from_of, grand_of, Walks}
-use Rattle.tiebeamer.proofs.ByNumbers.{hurt-turn, next-turn}
+use Rattle.tiebeamer.proofs.ByNumbers.{hurt-turn, next-turn, damaged_row, goes_row}
 
 start-by : (r : List ℕ) → get_or r 0 0 ≡ 1 → task_by r ≡ busy (job_by r) (Start (goal_by (get_or r 3 0)))
 unfolding task_by phase_by if_b
@@ -163,7 +162,7 @@ module _ (w : List ℕ) (i : ℕ) (k : Walker) (walks : Walks w i k) where
 
       by_turn : (f : Phase) → task_at (state_by w) i ≡ busy k.job f → (x : Turn) → Does f x → (r : Out) → r ≡ turned_out (state_by w) i x false → Stepped r
       by_turn f ef x ex r er =
-          goes-row t (state_by w) i _ k.job f (ap (λ (z : Task). z.work) ef) b eb c ec h n en t (calmly x) (quiet t (calmly x) x _ refl ex) r er
+          goes_row t (state_by w) i _ k.job f (ap (λ (z : Task). z.work) ef) b eb c ec h n en t (calmly x) (quiet t (calmly x) x _ refl ex) r er
 
       here-is : k.phase ≡ 2 → from_of k ≡ k.here
       unfolding from_of if_b

@@ -53,6 +53,7 @@ pub fn tiebeamer_reset(table: &mut [u32], state: &mut [u32]) -> u32
 }
 
 // Task i begins an operation. The places 7 to 14 of an idle task are 0 already, so its first seven numbers are enough.
+#[tactic(auto, using(crate::proofs::Begins::not_busy, crate::proofs::Begins::is_busy_lem), unfolding(machine::specs::Contract::after, machine::specs::Calls::begin_of, machine::specs::Choice::if_b))]
 fn begin_by(t: &[u32], w: &mut [u32], i: u32, o: Operation, j: Job) -> Answer
     requires { (length w.old ≡ 122) × (is_state w.old ≡ true) }
     ensures { (after t.now (out_by w.new result) ≡ begin_of t.now (state_by w.old) i o j) × (is_state w.new ≡ true) }
@@ -129,6 +130,7 @@ fn store_turn(w: &mut [u32], i: usize, m: u32, u: u32, a: Turn, committed: bool)
 }
 
 // A step of task i, which does k.
+#[tactic(auto, using(crate::proofs::ByNumbers::m_by), unfolding(machine::specs::Contract::after, machine::specs::Contract::acted, machine::specs::Contract::played, machine::specs::Contract::turned_out, machine::specs::Step::step_work, machine::specs::Step::carried, machine::specs::Choice::if_b))]
 fn step_work_by(t: &mut [u32], n: u32, w: &mut [u32], i: usize, k: Work) -> Answer
     requires { Sized t.old n × (n ≡ slots t.old) × (length w.old ≡ 122) × (is_state w.old ≡ true) × (i < 8) }
     ensures { (after t.new (out_by w.new result) ≡ step_work t.old (state_by w.old) i k) × (is_state w.new ≡ true) }
@@ -149,6 +151,7 @@ fn step_work_by(t: &mut [u32], n: u32, w: &mut [u32], i: usize, k: Work) -> Answ
 }
 
 // The slot that a walker's next step leaves.
+#[tactic(auto, unfolding(crate::specs::Numbers::from_of, machine::specs::Choice::if_b))]
 fn from_of(k: Walker) -> u32
     ensures { result ≡ from_of k }
 {
@@ -159,6 +162,7 @@ fn from_of(k: Walker) -> u32
 }
 
 // The parent of that slot.
+#[tactic(auto, unfolding(crate::specs::Numbers::grand_of, machine::specs::Choice::if_b))]
 fn grand_of(k: Walker) -> u32
     ensures { result ≡ grand_of k }
 {
@@ -225,6 +229,7 @@ fn walk_by(t: &[u32], n: u32, w: &mut [u32], i: usize, k: Walker) -> Answer
 }
 
 // A step of task i, the state in its numbers: only the task's own are read and written.
+#[tactic(auto, unfolding(machine::specs::Contract::after, machine::specs::Step::step_of, machine::specs::Choice::if_b))]
 fn step_by(t: &mut [u32], w: &mut [u32], i: u32) -> Answer
     requires { (length w.old ≡ 122) × (is_state w.old ≡ true) }
     ensures { (after t.new (out_by w.new result) ≡ step_of t.old (state_by w.old) i) × (is_state w.new ≡ true) }
@@ -296,6 +301,7 @@ pub fn tiebeamer_run(
 }
 
 // Task i is abandoned; its numbers are read as a task.
+#[tactic(auto, unfolding(machine::specs::Contract::after, machine::specs::Calls::abandon_of, machine::specs::Choice::if_b))]
 fn abandon_by(t: &[u32], w: &mut [u32], i: u32) -> Answer
     requires { (length w.old ≡ 122) × (is_state w.old ≡ true) }
     ensures { (after t.now (out_by w.new result) ≡ abandon_of t.now (state_by w.old) i) × (is_state w.new ≡ true) }
@@ -348,6 +354,7 @@ pub fn tiebeamer_tidy(table: &mut [u32], state: &mut [u32]) -> u32
 }
 
 // The figures, in their order.
+#[tactic(auto, unfolding(machine::specs::CallFile::end_line))]
 fn put_figures(places: &mut [u32; 7], f: Figures)
     ensures { places.new ≡ end_line f }
 {

@@ -70,12 +70,12 @@ low-above (hole b s k rk u c) t e = λ l. omega (arith, lev_at-plug s (hole b s 
 apart_by : (q r : ℕ) → (q ≡ r → ⊥) → lv q r ≡ true → ⊥
 apart_by q r d e = d (lv-eq q r e)
 
-put-calm : (c : Ctx) (h kh ph rh a l m K ResultKind kl pl rl km pm rm : ℕ) → (lv ResultKind rl ≡ true → ⊥) → (lv ResultKind rm ≡ true → ⊥) → InnerRank rh ResultKind → Calm 255 (plug c (leaf h kh ph rh))
-    → Calm 255 (plug c (node a K ResultKind (leaf l kl pl rl) (leaf m km pm rm)))
-put-calm c h kh ph rh a l m K ResultKind kl pl rl km pm rm nl nm r g =
+put-calm : (c : Ctx) (h kh ph rh a l m K RK kl pl rl km pm rm : ℕ) → (lv RK rl ≡ true → ⊥) → (lv RK rm ≡ true → ⊥) → InnerRank rh RK → Calm 255 (plug c (leaf h kh ph rh))
+    → Calm 255 (plug c (node a K RK (leaf l kl pl rl) (leaf m km pm rm)))
+put-calm c h kh ph rh a l m K RK kl pl rl km pm rm nl nm r g =
     let o = calm-apart c (leaf h kh ph rh) g in
-    calm-together c (node a K ResultKind (leaf l kl pl rl) (leaf m km pm rm)) ((λ x y. (nl, nm)), tt, tt)
-    (around-keep c rh ResultKind (λ x y. absurd (elim r [ inl e ↦ lv-not_255 (rank_c c) (rw e.1 at x) | inr e ↦ omega (arith, lv-eq (rank_c c) ResultKind x, e.1) ])) o.1)
+    calm-together c (node a K RK (leaf l kl pl rl) (leaf m km pm rm)) ((λ x y. (nl, nm)), tt, tt)
+    (around-keep c rh RK (λ x y. absurd (elim r [ inl e ↦ lv-not_255 (rank_c c) (rw e.1 at x) | inr e ↦ omega (arith, lv-eq (rank_c c) RK x, e.1) ])) o.1)
 
 renew-calm : (q s' : ℕ) (t : Tree) → Calm q t → Calm q (renew s' t)
 renew-calm q s' (leaf s k pr rk) h = tt
@@ -157,8 +157,8 @@ double-calm c b z x y y' x' z' kx ky kz j W A B S small hw hs g =
 
 -- EVERY commit
 pub act_calm : {v w : View} {kind : Kind} {t t' : Tree} (act : Act v kind t w t') → Shape t → (kind ≡ settles → lev_at 255 (above_act act) t ≡ 0) → Calm 255 t → Calm 255 t'
-act_calm (puts c k p h kh ph rh a l m ResultKind kl pl rl km pm rm fa fl fm al lm r two fits on) f low g =
-    put-calm c h kh ph rh a l m km ResultKind kl pl rl km pm rm fits.low-apart fits.high-apart r g
+act_calm (puts c k p h kh ph rh a l m RK kl pl rl km pm rm fa fl fm al lm r two fits on) f low g =
+    put-calm c h kh ph rh a l m km RK kl pl rl km pm rm fits.low-apart fits.high-apart r g
 act_calm (takes c b p kp rp l kl pl rl s' S free fare) f low g =
     let t = shape_at c (join b p kp rp (leaf l kl pl rl) S) f in
     let r = ranked_join b p kp rp (leaf l kl pl rl) S t.ranks in

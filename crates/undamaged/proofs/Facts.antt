@@ -45,12 +45,11 @@ use Rattle.terms.specs.declared.Turn.TheVariants.{Done, Hurt, Next}
 use Rattle.terms.specs.declared.Work.TheVariants.{Busy}
 use Rattle.trees.proofs.Held.{zero_out}
 use Rattle.trees.proofs.Plug.{pos-cases}
-use Rattle.trees.specs.Tree.{Tree, top}
+use Rattle.trees.specs.Tree.{Tree}
 use Rattle.undamaged.proofs.Calm.{act_calm}
 use Rattle.undamaged.proofs.Memory.{task_remembers}
 use Rattle.undamaged.proofs.Phases.{phase_safe}
 use Rattle.undamaged.proofs.Records.{old_kept}
-use Rattle.undamaged.proofs.Walks.{down, formed}
 use Rattle.undamaged.specs.Calm.{Calm}
 use Rattle.undamaged.specs.Memory.{Remembers, TaskRemembers}
 use Rattle.undamaged.specs.Records.{NotLevel, Old}

@@ -19,8 +19,7 @@ use Rattle.potential.proofs.Weights.{fib-step, fib-up}
 use Rattle.potential.specs.Potential.{owes, phi, phi_c, root_share, weight}
 use Rattle.routes.proofs.Level.{lev_at-plug, lev_at-root, lvs-pos}
 use Rattle.routes.proofs.Surgery.{at_most}
-use Rattle.routes.specs.Route.{here, lev_at, lv, lvs, rank_c}
-use Rattle.steps.proofs.Facts.{both}
+use Rattle.routes.specs.Route.{lev_at, lv, lvs, rank_c}
 use Rattle.steps.proofs.Settling.{Pair}
 use Rattle.trees.proofs.Held.{root-occ}
 use Rattle.trees.proofs.Plug.{Found, find, ind-eq, ind-other, occ-plug, take_apart_lem}

@@ -4,11 +4,9 @@ use mathlib.Core.Bool.{true}
 use mathlib.Core.Logic.{inl, inr}
 use mathlib.Core.Path.{◌∙◌, ◌≡◌, sym}
 use native.Mathlib.Omega.{arith}
-use Rattle.demand3.proofs.Crown.{top_rank}
 use Rattle.machine.specs.Record.{level, other, sentinel}
 use Rattle.machine.specs.Rows.{around_of}
 use Rattle.machine.specs.Table.{View}
-use Rattle.potential.proofs.Moves.{lower}
 use Rattle.routes.proofs.Surgery.{Surgery}
 use Rattle.terms.specs.declared.Goal.TheVariants.{Serve, Settle}
 use Rattle.terms.specs.declared.Links.{Links}
@@ -21,7 +19,6 @@ use Rattle.terms.specs.declared.TakeStage.{TakeStage}
 use Rattle.terms.specs.declared.TakeStage.TheVariants.{TakeCommit, TakeGrand, TakeLeft, TakeParent, TakeRight}
 use Rattle.terms.specs.declared.Work.{Work}
 use Rattle.terms.specs.declared.Work.TheVariants.{Busy, Idle}
-use Rattle.trees.proofs.Plug.{apart}
 use Rattle.trees.specs.Tree.{Tree}
 use Rattle.undamaged.proofs.Records.{Same, fate_same, low-kept}
 use Rattle.undamaged.specs.Memory.{Children, Chosen, InnerIs, LeafIs, Remembers, SettleNotes, Slope, TakeNotes, TaskRemembers, Turning, Way}

@@ -9,14 +9,14 @@ use mathlib.Core.Logic.{inl, inr}
 use mathlib.Core.Path.{◌∙◌, ◌≡◌, ap, refl, subst, sym}
 use native.Mathlib.Omega.{arith}
 use Rattle.demand2.proofs.Carried.{same-slots, same-tree}
-use Rattle.demand2.proofs.Demand2.{kept, stands}
+use Rattle.demand2.proofs.Demand2.{kept}
 use Rattle.demand2.proofs.Fresh.{fresh-size, fresh-tree, reset-is, stands-fresh}
 use Rattle.demand2.proofs.Lengths.{fits-of}
 use Rattle.demand2.proofs.Passes.{first_tree, passing, view_at}
 use Rattle.demand2.proofs.Seen.{reach-is}
 use Rattle.demand2.proofs.Stands.{Stands, fits-is, slots-is, sound-is}
 use Rattle.demand2.specs.Demand2.{held_at}
-use Rattle.demand3.proofs.Demand3.{low, rich, rich-on}
+use Rattle.demand3.proofs.Demand3.{low, rich-on}
 use Rattle.demand3.proofs.Rich.{Rich, extra_at, extra_fresh}
 use Rattle.history.specs.History.{Ask, abandon, begin, figures, left, list, reset, step, tidy}
 use Rattle.history.specs.Ledger.{Point, advance, goes, history, opening, started}
@@ -30,7 +30,6 @@ use Rattle.machine.specs.Contract.{after}
 use Rattle.machine.specs.Record.{number_fits, price_fits}
 use Rattle.machine.specs.State.{fresh_state, job_fits, sound, task_at}
 use Rattle.machine.specs.Step.{Left, answered, carried, step_of, step_work}
-use Rattle.routes.specs.Route.{tree}
 use Rattle.steps.proofs.Steps.{step-does}
 use Rattle.steps.specs.Does.{Does, EndOf, Quiet, hurts, leaves, moves-on, put-commits, rests, settle-commits, settled, stops, take-commits, turn_of_put}
 use Rattle.steps.specs.Trail.{WorkOk}

@@ -14,7 +14,7 @@ use Rattle.machine.specs.PutIn.{put_commit, put_grounds, put_limit, put_room, pu
 use Rattle.machine.specs.Record.{entry_form, fare_marks, in_tree, is_inner, is_leaf, is_link, leads, linked, links_of, plain_form, sentinel, well_formed}
 use Rattle.machine.specs.Table.{View}
 use Rattle.machine.specs.TakeOut.{read_take_grand, read_take_left, read_take_parent, read_take_right, take_apart, take_commit, take_grounds, take_leaf, take_room, take_step}
-use Rattle.routes.specs.Route.{Has, here, route}
+use Rattle.routes.specs.Route.{Has, route}
 use Rattle.steps.proofs.Facts.{both, differ, formed-plain, one_of}
 use Rattle.steps.proofs.Putting.{leaf_marks, on-route}
 use Rattle.steps.proofs.Taking.{child-here}
@@ -31,7 +31,7 @@ use Rattle.terms.specs.declared.TakeStage.{TakeStage}
 use Rattle.terms.specs.declared.TakeStage.TheVariants.{TakeCommit, TakeGrand, TakeLeft, TakeParent, TakeRight}
 use Rattle.terms.specs.declared.Task.{Task}
 use Rattle.trees.proofs.Held.{Carries}
-use Rattle.trees.proofs.Plug.{Found, apart, find, ind-eq, ind-other, take_apart_lem}
+use Rattle.trees.proofs.Plug.{Found, find, ind-eq, ind-other, take_apart_lem}
 use Rattle.trees.specs.Tree.{Ctx, Tree, hole, leaf, node, plug, root}
 use Rattle.undamaged.proofs.Records.{below-facts}
 use Rattle.undamaged.proofs.Walks.{formed, inner-links, linked-is, true_false}

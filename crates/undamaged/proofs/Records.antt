@@ -12,21 +12,19 @@ use Rattle.commits.proofs.Writes.{entry_in}
 use Rattle.fares.proofs.Formed.{entry-formed, leaf_linked, node_linked}
 use Rattle.fares.proofs.Whole.{Bounded}
 use Rattle.machine.proofs.Tests.{both-second}
-use Rattle.machine.specs.Record.{entry_form, fare_marks, inner_marks, is_inner, is_leaf, level, linked, plain_form, sentinel, well_formed}
+use Rattle.machine.specs.Record.{entry_form, fare_marks, inner_marks, is_inner, is_leaf, linked, plain_form, sentinel, well_formed}
 use Rattle.machine.specs.Table.{View}
-use Rattle.potential.proofs.Moves.{lower}
 use Rattle.routes.proofs.Kept.{Fate, alike, relinked, taken, unused, with_same}
 use Rattle.routes.proofs.Level.{lev_at-plug, lev_at-root, lvs-not, lvs-yes}
 use Rattle.routes.proofs.Surgery.{Surgery, at_most, in_tree_lem}
-use Rattle.routes.specs.Route.{here, lev_at, lv, lvs, rank_c}
-use Rattle.steps.proofs.Facts.{differ, linked-formed}
+use Rattle.routes.specs.Route.{lev_at, lv, lvs, rank_c}
+use Rattle.steps.proofs.Facts.{linked-formed}
 use Rattle.terms.specs.declared.Rec.{Rec}
 use Rattle.trees.proofs.Held.{Carries, Child, child-of, occ_c-parent, root-occ, zero_out}
-use Rattle.trees.proofs.Plug.{Found, apart, find, ind-cases, ind-eq, ind-other, ind-same, occ-plug, take_apart_lem}
+use Rattle.trees.proofs.Plug.{Found, find, ind-cases, ind-eq, ind-other, ind-same, occ-plug, take_apart_lem}
 use Rattle.trees.specs.Rank.{rank}
 use Rattle.trees.specs.Tree.{Ctx, Tree, ind, leaf, node, occ, occ_c, parent, plug, root}
 use Rattle.undamaged.specs.Records.{Down, NotLevel, Old, Used}
-use Rattle.views.proofs.Law.{inside}
 use Rattle.views.specs.Update.{link, taken_off, with_link}
 
 -- ---- in the tree

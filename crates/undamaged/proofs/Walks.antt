@@ -13,7 +13,7 @@ use Rattle.machine.specs.Record.{is_leaf, linked, top_number, well_formed}
 use Rattle.machine.specs.Table.{View}
 use Rattle.machine.specs.Walk.{arrival, at_leaf, outranks, serve_arrival, settle_arrival, sought, walk_from, walk_on, walk_to}
 use Rattle.routes.proofs.Level.{lev_at-le}
-use Rattle.routes.specs.Route.{here, lv, next}
+use Rattle.routes.specs.Route.{lv, next}
 use Rattle.steps.proofs.Facts.{formed-plain, leaf_links, not_level}
 use Rattle.steps.proofs.Trails.{next-sought}
 use Rattle.terms.specs.Task.{no_grand}
@@ -26,7 +26,7 @@ use Rattle.terms.specs.declared.Path.{Path}
 use Rattle.terms.specs.declared.Phase.TheVariants.{Walk}
 use Rattle.terms.specs.declared.Rec.{Rec}
 use Rattle.trees.proofs.Held.{root-pos, zero_out}
-use Rattle.trees.specs.Tree.{Tree, parent}
+use Rattle.trees.specs.Tree.{Tree}
 use Rattle.undamaged.proofs.Records.{used_down, used_formed}
 use Rattle.undamaged.specs.Memory.{InnerIs, LeafIs, Remembers, Slope, Way}
 use Rattle.undamaged.specs.Records.{Down, NotLevel, Used}

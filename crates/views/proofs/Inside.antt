@@ -1,10 +1,10 @@
 -- Whatever the table holds, a step writes only to slots of the table.
-use mathlib.Core.Path.{◌≡◌, refl}
+use mathlib.Core.Path.{◌≡◌}
 use mathlib.Core.Bool.{Bool, true, false, not, ◌&&◌}
-use mathlib.Core.List.{List, [], ◌∷◌}
+use mathlib.Core.List.{List}
 use Prim.Native.Nat.{ℕ, zero, suc, ◌+◌, ◌-◌, ◌≤◌, ◌<◌}
 use native.Mathlib.Omega.{arith}
-use lib.Dec.{eqb, leb}
+use lib.Dec.{eqb}
 use borrow.Author.Tests.{leb-false, not-false, eqb-true}
 use Rattle.terms.specs.declared.Rec.{Rec}
 use Rattle.terms.specs.declared.Links.{Links}
@@ -26,12 +26,12 @@ use Rattle.terms.specs.declared.LevelRow.{LevelRow}
 use Rattle.terms.specs.declared.LevelRow.TheVariants.{NoRow, RotateOne, RotateTwo, DoubleRotation}
 use Rattle.machine.specs.Choice.{if_b}
 use Rattle.machine.specs.Record.{well_formed, linked, leads, other}
-use Rattle.machine.specs.Table.{View, view, Write, free_from, free, slot1, slot2, slot3}
-use Rattle.machine.specs.Commit.{Did, calm, commit_if}
+use Rattle.machine.specs.Table.{View, view, free_from, free, slot1, slot2, slot3}
+use Rattle.machine.specs.Commit.{Did, commit_if}
 use Rattle.machine.specs.PutIn.{put_grounds, put_writes, put_room, put_limit, put_commit, put_step}
 use Rattle.machine.specs.TakeOut.{take_apart, take_leaf, take_grounds, take_room, take_commit, take_step}
-use Rattle.machine.specs.Rows.{parent_row, level_row, around_of, rotate_writes, double_writes}
-use Rattle.machine.specs.Settling.{grounds_two, grounds_three, grounds_four, promote_do, rotate_do, rotate_two_do, double_do, rotate_by, double_by, promote_by, commit_two, commit_three, commit_four, choose_formed, turn_formed, is_wider, is_double, choose_by, choose_step, rotate_on, rotate_turn, rotate_first, rotate_step, double_turn, double_first, double_step, settle_step}
+use Rattle.machine.specs.Rows.{around_of, rotate_writes, double_writes}
+use Rattle.machine.specs.Settling.{grounds_two, grounds_three, grounds_four, promote_do, rotate_do, rotate_two_do, double_do, rotate_by, double_by, promote_by, commit_two, commit_three, commit_four, choose_formed, turn_formed, choose_by, choose_step, rotate_on, rotate_turn, rotate_first, rotate_step, double_turn, double_first, double_step, settle_step}
 use Rattle.machine.specs.Step.{phase_step}
 use Rattle.machine.proofs.Choice.{if_elim}
 use Rattle.machine.proofs.Tests.{both_first, both-second, either_way, formed-in, linked-in}

@@ -1,19 +1,18 @@
 -- A table after writes reads as the view after these writes.
 use mathlib.Core.Path.{◌≡◌, refl, sym, ap, ◌∙◌, fun_ext}
-use Prim.Native.Nat.{ℕ, zero, suc, ◌+◌, ◌*◌, ◌≤◌, ◌<◌}
+use Prim.Native.Nat.{ℕ, ◌*◌, ◌≤◌, ◌<◌}
 use native.Mathlib.Omega.{arith}
 use mathlib.Core.Logic.{◌⊎◌, inl, inr}
 use mathlib.Core.Bool.{Bool, true, false}
 use mathlib.Core.List.{List, [], ◌∷◌}
-use lib.Dec.{ltb, eqb, lit<}
-use lib.ListN.{length, get_or, set, length-set, replicate, get_or-replicate}
+use lib.Dec.{ltb, eqb}
+use lib.ListN.{length, get_or, set, length-set}
 use lib.Seq.{get_or-set_same, get_or-set_other}
 use borrow.Author.Tests.{eq-eqb, ne_eqb, eqb-true, eqb-false, ltb-true, ltb-false, lt-ltb, le-ltb}
-use Rattle.terms.specs.declared.Rec.{Rec}
 use Rattle.machine.specs.Choice.{if_b}
 use Rattle.machine.specs.Record.{free_rec}
 use Rattle.machine.specs.Table.{View, view, place, Write, fill, lead, off, put, puts}
-use Rattle.views.specs.Update.{where_to, with_link, taken_off, made, upd, upds, Within}
+use Rattle.views.specs.Update.{where_to, made, upd, upds, Within}
 
 -- two numbers are the same or not; a slot is in the table or not
 pub same_or : (x y : ℕ) → (x ≡ y) ⊎ (x ≡ y → ⊥)

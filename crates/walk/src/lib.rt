@@ -1,5 +1,6 @@
 // The walk, and a reading: decisions on records by value, and the functions that load the records that they name.
 #![tactic(auto)]
+
 ghost use Rattle.std.specs.Prelude.{◌≡◌, ◌+◌, ◌-◌, ◌*◌, ◌≤◌, ◌<◌};
 ghost use Rattle.terms.specs.Task.{busy};
 ghost use Rattle.machine.specs.Contract.{Sized};

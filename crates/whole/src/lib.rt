@@ -1,5 +1,6 @@
 // The calls over the whole table: tidy, figures and the list of fares.
 #![tactic(auto)]
+
 ghost use Rattle.std.specs.Prelude.{◌≡◌, true, ◌+◌, ◌-◌, ◌*◌, ◌<◌, replicate};
 ghost use Rattle.machine.specs.Contract.{Sized, after};
 ghost use Rattle.machine.specs.State.{sound};

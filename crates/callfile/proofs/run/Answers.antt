@@ -14,8 +14,9 @@ returns-then-not-on c =
 
 pub loop-o-preserved : goal.loop-o-preserved
 loop-o-preserved c =
-    let m = run_more _ _ _ _ _ c.step-o.ensures _ c.number_of.ensures _ c.loop-o.invariant.0 (ap not c.if-not-on.false) in
-    (omega arith,
-    omega arith,
-    c.loop-o.invariant.2 ∙ run_on _ _ _ _ _ c.step-o.ensures _ c.number_of.ensures _ c.loop-o.invariant.0 (ap not c.if-not-on.false),
-    c.step-o.auto.t ∙ c.loop-o.invariant.3)
+    let m = run_more _ _ _ _ _ c.step-o.ensures _ c.number_of.ensures _ c.loop-o.invariant.0 (ap not c.if-not-on.false) in (
+      omega arith,
+      omega arith,
+      c.loop-o.invariant.2 ∙ run_on _ _ _ _ _ c.step-o.ensures _ c.number_of.ensures _ c.loop-o.invariant.0 (ap not c.if-not-on.false),
+      c.step-o.auto.t ∙ c.loop-o.invariant.3,
+    )

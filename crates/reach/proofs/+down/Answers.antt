@@ -1,5 +1,5 @@
 -- One law for each exit of the way down, and what is left of the slots at each call.
-use Rattle.std.proofs.Common.{arith, ◌∙◌}
+use Rattle.std.proofs.Common.{arith}
 use lib.ListN.{length-set}
 use borrow.Author.Tests.{not-true, not-false}
 use Rattle.reach.proofs.Rows.{at_leaf_lem, both-fine, inside, left-lost, less, no_way, right_lost, some_left}
@@ -28,12 +28,15 @@ overflow_sub-left-2 t c =
 
 pub down-a-requires : goal.down-a-requires
 down-a-requires t c =
-    let h = some_left _ _ c.args.p _ _ _ c.requires.1 c.requires.2 _ c.load-r.ensures _ c.may_reach.ensures c.if-not-may_reach.false in
-    (omega (arith, h),
-    (c.requires.0,
-    simp length-set c.requires.1,
-    less _ _ c.args.p _ _ _ c.requires.1 c.requires.2 _ c.load-r.ensures _ c.may_reach.ensures c.if-not-may_reach.false,
-    omega arith))
+    let h = some_left _ _ c.args.p _ _ _ c.requires.1 c.requires.2 _ c.load-r.ensures _ c.may_reach.ensures c.if-not-may_reach.false in (
+      omega (arith, h),
+      (
+        c.requires.0,
+        simp length-set c.requires.1,
+        less _ _ c.args.p _ _ _ c.requires.1 c.requires.2 _ c.load-r.ensures _ c.may_reach.ensures c.if-not-may_reach.false,
+        omega arith,
+      ),
+    )
 
 pub returns-then-not-a : goal.returns-then-not-a
 returns-then-not-a t c =

@@ -19,20 +19,30 @@ overflow_sub-left t c = slot_left _ _ _ _ c.load-r.ensures c.requires.1.0 _ c.is
 
 pub write_fares-a-requires : goal.write_fares-a-requires
 write_fares-a-requires t c =
-    let h = slot_left _ _ _ _ c.load-r.ensures c.requires.1.0 _ c.is_leaf.ensures in
-    (omega (arith, h),
-    (c.requires.0,
-    (left-fits _ _ _ _ c.load-r.ensures c.requires.1.0 _ c.is_leaf.ensures c.if-is_leaf.false,
-    left-room _ _ _ _ c.load-r.ensures c.requires.1.0 _ c.is_leaf.ensures c.if-is_leaf.false _ c.args.room.now c.requires.1.1)))
+    let h = slot_left _ _ _ _ c.load-r.ensures c.requires.1.0 _ c.is_leaf.ensures in (
+      omega (arith, h),
+      (
+        c.requires.0,
+        (
+          left-fits _ _ _ _ c.load-r.ensures c.requires.1.0 _ c.is_leaf.ensures c.if-is_leaf.false,
+          left-room _ _ _ _ c.load-r.ensures c.requires.1.0 _ c.is_leaf.ensures c.if-is_leaf.false _ c.args.room.now c.requires.1.1,
+        ),
+      ),
+    )
 
 pub write_fares-requires : goal.write_fares-requires
 write_fares-requires t c =
-    let h = slot_left _ _ _ _ c.load-r.ensures c.requires.1.0 _ c.is_leaf.ensures in
-    (omega (arith, h, c.write_fares-a.ensures.used),
-    (c.requires.0,
-    (right_fits _ _ _ _ c.load-r.ensures c.requires.1.0 _ c.is_leaf.ensures c.if-is_leaf.false _ _ c.requires.1.1 _ _ c.write_fares-a.ensures,
-    right_room _ _ _ _ c.load-r.ensures c.requires.1.0 _ c.is_leaf.ensures c.if-is_leaf.false _ _ c.requires.1.1 _ _ c.write_fares-a.ensures
-    c.write_fares-a.auto.room)))
+    let h = slot_left _ _ _ _ c.load-r.ensures c.requires.1.0 _ c.is_leaf.ensures in (
+      omega (arith, h, c.write_fares-a.ensures.used),
+      (
+        c.requires.0,
+        (
+          right_fits _ _ _ _ c.load-r.ensures c.requires.1.0 _ c.is_leaf.ensures c.if-is_leaf.false _ _ c.requires.1.1 _ _ c.write_fares-a.ensures,
+          right_room _ _ _ _ c.load-r.ensures c.requires.1.0 _ c.is_leaf.ensures c.if-is_leaf.false _ _ c.requires.1.1 _ _ c.write_fares-a.ensures
+              c.write_fares-a.auto.room,
+        ),
+      ),
+    )
 
 pub returns : goal.returns
 returns t c =

@@ -16,11 +16,12 @@ overflow_sub-n c =
     entry_in _ _ _ c.requires.1 _ c.load-e.ensures _ c.well_formed-2.ensures _ c.in_tree.ensures c.if-not-good.false
 
 pub down-requires : goal.down-requires
-down-requires c =
-    (c.requires.0,
-    entry_length _ _ _ c.requires.1 _ c.load-e.ensures _ c.well_formed-2.ensures _ c.in_tree.ensures c.if-not-good.false,
-    entry-marked _ _ _ c.requires.1 _ c.load-e.ensures _ c.well_formed-2.ensures _ c.in_tree.ensures c.if-not-good.false,
-    omega arith)
+down-requires c = (
+  c.requires.0,
+  entry_length _ _ _ c.requires.1 _ c.load-e.ensures _ c.well_formed-2.ensures _ c.in_tree.ensures c.if-not-good.false,
+  entry-marked _ _ _ c.requires.1 _ c.load-e.ensures _ c.well_formed-2.ensures _ c.in_tree.ensures c.if-not-good.false,
+  omega arith,
+)
 
 pub returns : goal.returns
 returns c =

@@ -8,6 +8,7 @@ slots_of-requires c = fits-most _ _ c.length_fits.ensures (ap not c.if-not-lengt
 
 pub lay_out-requires : goal.lay_out-requires
 lay_out-requires c =
-    let f = ap not c.if-not-length_fits.false in
-    ((rw c.slots_of.ensures (sixes _ _ c.length_fits.ensures f), rw c.slots_of.ensures (slots-most _ _ c.length_fits.ensures f)),
-    rw c.slots_of.ensures (slots-least _ _ c.length_fits.ensures f))
+    let f = ap not c.if-not-length_fits.false in (
+      (rw c.slots_of.ensures (sixes _ _ c.length_fits.ensures f), rw c.slots_of.ensures (slots-most _ _ c.length_fits.ensures f)),
+      rw c.slots_of.ensures (slots-least _ _ c.length_fits.ensures f),
+    )

@@ -16,6 +16,8 @@ slice_bounds-figures_reached-end c =
 
 pub figures_reached-requires : goal.figures_reached-requires
 figures_reached-requires c =
-    let few = few-slots _ _ c.length_fits.ensures (ap not c.if-not-length_fits.false) _ c.slots_of-n.ensures in
-    ((six-each _ _ c.length_fits.ensures (ap not c.if-not-length_fits.false) _ c.slots_of-n.ensures, few),
-    front-clear 4096 _ few, sym c.is_sound.ensures ∙ c.if-not-is_sound.false)
+    let few = few-slots _ _ c.length_fits.ensures (ap not c.if-not-length_fits.false) _ c.slots_of-n.ensures in (
+      (six-each _ _ c.length_fits.ensures (ap not c.if-not-length_fits.false) _ c.slots_of-n.ensures, few),
+      front-clear 4096 _ few,
+      sym c.is_sound.ensures ∙ c.if-not-is_sound.false,
+    )

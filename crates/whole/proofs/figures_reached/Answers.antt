@@ -1,4 +1,3 @@
-use Rattle.std.proofs.Common.{refl}
 use Rattle.whole.proofs.Rows.{figures-fine}
 use Rattle.whole.proofs.figures_reached.Goals as goal
 

@@ -16,6 +16,7 @@ slice_bounds-list_reached-end c =
 
 pub list_reached-requires : goal.list_reached-requires
 list_reached-requires c =
-    let few = few-slots _ _ c.length_fits.ensures (ap not c.if-not-length_fits.false) _ c.slots_of-n.ensures in
-    ((six-each _ _ c.length_fits.ensures (ap not c.if-not-length_fits.false) _ c.slots_of-n.ensures, few),
-    front-clear 4096 _ few)
+    let few = few-slots _ _ c.length_fits.ensures (ap not c.if-not-length_fits.false) _ c.slots_of-n.ensures in (
+      (six-each _ _ c.length_fits.ensures (ap not c.if-not-length_fits.false) _ c.slots_of-n.ensures, few),
+      front-clear 4096 _ few,
+    )

@@ -16,6 +16,7 @@ slice_bounds-tidy_reached-end c =
 
 pub tidy_reached-requires : goal.tidy_reached-requires
 tidy_reached-requires c =
-    let few = few-slots _ _ c.length_fits.ensures (ap not c.if-not-length_fits.false) _ c.slots_of-n.ensures in
-    ((six-each _ _ c.length_fits.ensures (ap not c.if-not-length_fits.false) _ c.slots_of-n.ensures, few),
-    front-clear 4096 _ few)
+    let few = few-slots _ _ c.length_fits.ensures (ap not c.if-not-length_fits.false) _ c.slots_of-n.ensures in (
+      (six-each _ _ c.length_fits.ensures (ap not c.if-not-length_fits.false) _ c.slots_of-n.ensures, few),
+      front-clear 4096 _ few,
+    )
