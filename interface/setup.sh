@@ -25,24 +25,27 @@ choose_compiler() {
 }
 
 choose_cross_compiler() {
-    local rt home
     compiler=${CC:-x86_64-linux-gnu-gcc}
     link=(-static)
     size=x86_64-linux-gnu-size
-    rt=$(command -v rt) || fail "the Rattle kit is needed: its command rt is not on the path."
-    home=${RATTLE_HOME:-$(dirname "$(dirname "$(readlink -f "$rt")")")}
-    runner=("$home/on/$(uname -m)/toolchain/bin/qemu-x86_64")
-    [ -x "${runner[0]}" ] || fail "the kit has no emulator for this machine: ${runner[0]}"
+    runner=(qemu-x86_64)
     if ! command -v "$compiler" >/dev/null && [ -n "$install" ]; then
         apt-get install -y gcc-x86-64-linux-gnu libc6-dev-amd64-cross
     fi
+    if ! command -v "${runner[0]}" >/dev/null && [ -n "$install" ]; then
+        apt-get install -y qemu-user
+    fi
+    command -v "${runner[0]}" >/dev/null ||
+        fail "no emulator ${runner[0]} (Debian's qemu-user; interface/try --install gets it)."
 }
 
-# The archive is made anew where it is missing or older than its sources.
+# The archive is made anew where it is missing or older than its sources. What rt keeps in the folders out is no source.
 make_archive() {
-    if [ ! -f "$archive" ] || [ -n "$(find "$top/crates" "$top/crates.txt" -newer "$archive" -print -quit)" ]; then
-        (cd "$top" && rt staticlib tiebeamer) >&2 || fail "'rt staticlib tiebeamer' failed."
-        touch "$archive"
+    if [ ! -f "$archive" ] ||
+        [ -n "$(find "$top/crates" "$top/crates.txt" -name out -prune -o -newer "$archive" -print -quit)" ]; then
+        (cd "$top/crates/tiebeamer_c" && rt lib) >&2 || fail "'rt lib' in crates/tiebeamer_c failed."
+        mkdir -p "${archive%/*}"
+        cp "$top/crates/tiebeamer_c/out/libtiebeamer_c.a" "$archive"
     fi
     mkdir -p "$made"
 }

@@ -36,51 +36,36 @@ run_fare() {
     run_proved
 }
 
-# Builds a proved program where it is missing or older than its sources: ${proved[@]}, the words that run it. Its name in
-# capitals is the variable that names another program in its place.
+# Builds a proved program where it is missing or older than its sources: $proved. Its name in capitals is the variable that
+# names another program in its place.
 build_proved() { # NAME
-    local variable=${1^^} program=$top/target/bin/$1 rt
+    local variable=${1^^} program=$top/crates/$1/out/$1
     local given=${!variable:-}
     if [ -n "$given" ]; then
         [ -x "$given" ] || fail "$variable names no program: $given"
-        proved=("$given")
+        proved=$given
         return 0
     fi
-    rt=$(command -v rt) || fail "$1, the proved program, needs the Rattle kit: its command rt is not on the path."
-    if [ ! -x "$program" ]; then
-        # Without its program the crate is as good as unproved: rt would not link it again.
-        rm -f "$top/target/stamp/$1"
-        prove "$1" "$program"
-    elif [ -n "$(find "$top/crates" "$top/crates.txt" -newer "$program" -print -quit)" ]; then
+    command -v rt >/dev/null || fail "$1, the proved program, needs the Rattle kit: its command rt is not on the path."
+    # What rt keeps in the folders out is no source.
+    if [ ! -x "$program" ] ||
+        [ -n "$(find "$top/crates" "$top/crates.txt" -name out -prune -o -newer "$program" -print -quit)" ]; then
         prove "$1" "$program"
     fi
-    run_by_kit "$rt" "$program"
+    proved=$program
 }
 
+# rt proves a program, builds it and runs it, here on no input.
 prove() { # NAME PROGRAM
-    echo "${0##*/}: building $1, the proved program (rt check $1)" >&2
-    (cd "$top" && rt check "$1") >&2 || fail "$1, the proved program, cannot be built: 'rt check $1' failed."
-    [ -x "$2" ] || fail "$1, the proved program, cannot be built: 'rt check $1' left no target/bin/$1."
+    echo "${0##*/}: building $1, the proved program (rt run in crates/$1)" >&2
+    (cd "$top/crates/$1" && rt run </dev/null >/dev/null) ||
+        fail "$1, the proved program, cannot be built: 'rt run' in crates/$1 failed."
+    [ -x "$2" ] || fail "$1, the proved program, cannot be built: 'rt run' left no crates/$1/out/$1."
     # rt leaves a program that has not changed. From now on it counts as newer than its sources.
     touch "$2"
 }
 
-# A program is compiled for x86-64 and runs under the loader and the C library of the kit, on another processor under
-# the kit's emulator. This is how rt itself runs it.
-run_by_kit() { # RT PROGRAM
-    local home tools emulator
-    home=${RATTLE_HOME:-$(dirname "$(dirname "$(readlink -f "$1")")")}
-    tools=$home/on/$(uname -m)/toolchain
-    emulator=$tools/bin/qemu-x86_64
-    proved=("$tools/lib/ld-linux-x86-64.so.2" --library-path "$tools/lib" "$2")
-    [ ! -x "$emulator" ] || proved=("$emulator" "${proved[@]}")
-}
-
 # Runs the proved program on standard input.
 run_proved() {
-    (
-        # Words that are meant for the emulator would change the run.
-        unset "${!QEMU_@}"
-        exec "${proved[@]}"
-    )
+    "$proved"
 }

@@ -1,4 +1,4 @@
-//! Links the archive that `rt staticlib tiebeamer` makes. `TIEBEAMER_ARCHIVES` names another folder for it.
+//! Links the archive that `interface/try` makes. `TIEBEAMER_ARCHIVES` names another folder for it.
 use std::{env, path::PathBuf};
 
 fn main() {

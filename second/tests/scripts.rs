@@ -25,21 +25,16 @@ struct Yard {
     _turn: MutexGuard<'static, ()>,
 }
 
-/// Notes its words, and leaves a program that is the second one.
+/// Notes its words and the crate, and leaves a program that is the second one.
 const RT: &str = r#"#!/bin/sh
-echo "$*" >>rt.log
-[ ! -e refuse ] || exit 1
-mkdir -p target/bin target/stamp
-word=$2
+name=$(basename "$PWD")
+echo "$* $name" >>../../rt.log
+[ ! -e ../../refuse ] || exit 1
+mkdir -p out
+word=$name
 [ "$word" != fare ] || word=run
-printf '#!/bin/sh\nexec "$SECOND" %s\n' "$word" >"target/bin/$2"
-chmod +x "target/bin/$2"
-"#;
-
-const LOADER: &str = r#"#!/bin/sh
-[ "$1" = --library-path ] && [ -d "$2" ] || exit 9
-shift 2
-exec "$@"
+printf '#!/bin/sh\nexec "$SECOND" %s\n' "$word" >"out/$name"
+chmod +x "out/$name"
 "#;
 
 const SAME: &str = "#!/bin/sh\nexec \"$SECOND\" run\n";
@@ -49,7 +44,7 @@ impl Yard {
         let turn = TURN.lock().unwrap_or_else(|error| error.into_inner());
         let top = PathBuf::from(env!("CARGO_TARGET_TMPDIR")).join(name);
         let _ = fs::remove_dir_all(&top);
-        for part in ["second", "crates/fare/src"] {
+        for part in ["second", "crates/fare/src", "crates/probe"] {
             fs::create_dir_all(top.join(part)).expect("a folder of our own");
         }
         for part in ["ride", "fresh-rides", "second/fare.sh", "second/long-rides"] {
@@ -57,15 +52,6 @@ impl Yard {
         }
         let yard = Yard { top, _turn: turn };
         yard.program("kit/bin/rt", RT);
-        let machine = text(
-            &Command::new("uname")
-                .arg("-m")
-                .output()
-                .expect("uname")
-                .stdout,
-        );
-        let tools = format!("kit/on/{}/toolchain/lib", machine.trim());
-        yard.program(&format!("{tools}/ld-linux-x86-64.so.2"), LOADER);
         fs::write(yard.top.join("crates.txt"), "fare:\n").expect("a list");
         fs::write(yard.top.join("crates/fare/src/source.txt"), "").expect("a source");
         yard
@@ -89,8 +75,7 @@ impl Yard {
             .env("SECOND", env!("CARGO_BIN_EXE_second"))
             .env("PATH", format!("{}:{path}", kit.display()))
             .env_remove("FARE")
-            .env_remove("PROBE")
-            .env_remove("RATTLE_HOME");
+            .env_remove("PROBE");
         command
     }
 
@@ -123,7 +108,7 @@ impl Yard {
     /// How often rt was asked for the program.
     fn builds(&self) -> usize {
         let log = fs::read_to_string(self.top.join("rt.log")).unwrap_or_default();
-        assert!(log.lines().all(|line| line == "check fare"), "{log}");
+        assert!(log.lines().all(|line| line == "run fare"), "{log}");
         log.lines().count()
     }
 }
@@ -222,7 +207,7 @@ fn damage_that_is_alike() {
     // Without PROBE the program is built by rt.
     assert_ends(&yard.run("fresh-rides", &["--damage", "20"]), 0, "20 of 20");
     let log = fs::read_to_string(yard.top.join("rt.log")).expect("a log");
-    assert_eq!(log, "check probe\n");
+    assert_eq!(log, "run probe\n");
 }
 
 #[test]
@@ -276,7 +261,7 @@ fn damage_tells_other_faults() {
         );
     }
     fs::write(yard.top.join("refuse"), "").expect("a file");
-    let told = "probe, the proved program, cannot be built: 'rt check probe' failed.\n";
+    let told = "probe, the proved program, cannot be built: 'rt run' in crates/probe failed.\n";
     assert_ends(&yard.run("fresh-rides", &["--damage", "9"]), 1, told);
 }
 
@@ -302,10 +287,7 @@ fn a_ride_shows_the_answers_of_fare() {
 #[test]
 fn fare_is_built_when_it_must_be() {
     let yard = Yard::new("builds");
-    let (program, stamp) = (
-        yard.top.join("target/bin/fare"),
-        yard.top.join("target/stamp/fare"),
-    );
+    let program = yard.top.join("crates/fare/out/fare");
     let ride = |builds| {
         assert_ends(&yard.run("ride", &[&example()]), 0, "found at 250 cents");
         assert_eq!(yard.builds(), builds);
@@ -320,17 +302,19 @@ fn fare_is_built_when_it_must_be() {
         .set_modified(later - Duration::from_secs(120))
         .expect("a time");
     ride(2);
-    fs::write(&stamp, "").expect("a stamp");
+    // What rt keeps is no source.
+    let kept = fs::File::create(yard.top.join("crates/fare/out/kept")).expect("a file kept");
+    kept.set_modified(later).expect("a time");
+    ride(2);
     fs::remove_file(&program).expect("the program");
     ride(3);
-    assert!(!stamp.exists());
 }
 
 #[test]
 fn without_fare_a_ride_says_why() {
     let yard = Yard::new("without");
     fs::write(yard.top.join("refuse"), "").expect("a file");
-    let told = "ride: fare, the proved program, cannot be built: 'rt check fare' failed.\n";
+    let told = "ride: fare, the proved program, cannot be built: 'rt run' in crates/fare failed.\n";
     assert_ends(&yard.run("ride", &[&example()]), 1, told);
     // A path on which there is no rt.
     let tools = yard.top.join("tools");

@@ -1,32 +1,37 @@
 // Long rides: each argument names a call file of data/; its name and all that the call-file program prints for it.
 #![tactic(auto)]
-use libc::STDOUT_FILENO;
+
 use playing::play;
+use std::fs::File;
+use std::io::{BufReader, LineWriter, Write};
+use std::rt::Files;
+use std::{env, io};
 
-fn play_file(path: &[u8]) {
-    io::write_all(STDOUT_FILENO, b"file ");
-    io::write_all(STDOUT_FILENO, path);
-    io::write_all(STDOUT_FILENO, b"\n");
-    let fd = os::open_read(path);
-    if fd < 0 {
-        os::fail(path);
-        return;
+// A file that cannot be opened is told on standard error, and the next one is played.
+fn play_file<R: Files + Alloc + Eprint, W: Write>(
+    rt: &R,
+    out: &mut W,
+    path: &str,
+) -> io::Result<()> {
+    writeln!(out, "file {path}")?;
+    match File::open(rt, path) {
+        Ok(file) => play(&mut BufReader::new(rt.alloc(), file)?, out),
+        Err(e) => eprintln!(rt; "{path}: {e}"),
     }
-    play(fd);
-    libc::close(fd);
 }
 
-fn play_argument(i: usize) {
-    let mut path = io::buffer();
-    let n = os::arg(i, &mut path);
-    play_file(&path[..n]);
+fn play_argument<R: Files + AllocGlobal + Eprint, W: Write>(
+    rt: &R,
+    out: &mut W,
+    path: String,
+) -> io::Result<()> {
+    play_file(rt, out, path.as_str())
 }
 
-fn main() {
-    let count = os::arg_count();
-    let mut i: usize = 1;
-    while i < count {
-        play_argument(i);
-        i += 1;
+fn main(rt: HostRuntime) -> io::Result<()> {
+    let mut out = LineWriter::new(rt.alloc(), rt.stdout())?;
+    for path in env::args(&rt)?.skip(1) {
+        play_argument(&rt, &mut out, path)?;
     }
+    out.flush()
 }

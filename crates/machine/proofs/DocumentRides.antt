@@ -1,7 +1,7 @@
 -- The rides of second/rides/document.txt; made by second/to-proofs.
 use mathlib.Core.List.{List, [], ◌∷◌}
 use Rattle.terms.specs.declared.Operation.TheVariants.{LookUp, PutIn, TakeOut}
-use Rattle.machine.proofs.Ride.{Ride, anew, onward, begin, step, abandon, tidy, figures, list, length-is, call, damage, same, left, rec}
+use Rattle.machine.proofs.Ride.{Ride, anew, onward, begin, step, abandon, tidy, figures, list, length_is, call, damage, same, left, rec}
 
 unfoldable pub document_rides : List Ride
 document_rides =
@@ -335,7 +335,7 @@ document_rides =
     ∷ record {
       start = anew 8;
       lines =
-          damage (length-is 47)
+          damage (length_is 47)
           ∷ call (begin 0 LookUp 10 0) 18 0
           ∷ call (begin 0 PutIn 10 250) 18 0
           ∷ call (begin 0 TakeOut 10 0) 18 0

@@ -6,7 +6,7 @@ use Rattle.terms.specs.declared.PutStage.TheVariants.{PutParent, PutLeaf, PutCom
 use Rattle.terms.specs.declared.TakeStage.TheVariants.{TakeGrand, TakeLeft, TakeRight, TakeCommit}
 use Rattle.terms.specs.declared.SettleStage.TheVariants.{SettleGrand, SettleParent, SettleChoose, SettleRotate, SettleDouble}
 use Rattle.terms.specs.declared.Phase.TheVariants.{Start, Walk, PuttingIn, TakingOut, Settling}
-use Rattle.machine.proofs.Ride.{Ride, anew, onward, beside, begin, step, abandon, tidy, figures, list, field, m-is, u-is, length-is, task_is, call, damage, same, left, rec, links, path, busy}
+use Rattle.machine.proofs.Ride.{Ride, anew, onward, beside, begin, step, abandon, tidy, figures, list, field, m_is, u_is, length_is, task_is, call, damage, same, left, rec, links, path, busy}
 
 unfoldable pub own_rides : List Ride
 own_rides =
@@ -584,7 +584,7 @@ own_rides =
                 ∷ [];
           });
     }
-    -- 16: a settling walk that ends at a taken_off leaf gives 3
+    -- 16: a settling walk that ends at a taken-off leaf gives 3
     ∷ record {
       start = beside;
       lines =
@@ -1341,7 +1341,7 @@ own_rides =
                 ∷ [];
           });
     }
-    -- 36: a look up standing on a taken_off record ends at a taken_off leaf, found with its price
+    -- 36: a look up standing on a taken-off record ends at a taken-off leaf, found with its price
     ∷ record {
       start = beside;
       lines =
@@ -1447,7 +1447,7 @@ own_rides =
                 ∷ [];
           });
     }
-    -- 39: a look up and a take-out of another number end with 2 at a taken_off leaf
+    -- 39: a look up and a take-out of another number end with 2 at a taken-off leaf
     ∷ record {
       start = beside;
       lines =
@@ -2209,7 +2209,7 @@ own_rides =
     ∷ record {
       start = beside;
       lines =
-          damage (m-is 1000000)
+          damage (m_is 1000000)
           ∷ call (begin 0 PutIn 30 130) 0 0
           ∷ call (step 0 5) 0 0
           ∷ call (step 0 1) 16 0
@@ -2238,7 +2238,7 @@ own_rides =
     ∷ record {
       start = beside;
       lines =
-          damage (m-is 999999)
+          damage (m_is 999999)
           ∷ call (begin 0 PutIn 30 130) 0 0
           ∷ call (step 0 6) 15 0
           ∷ [];
@@ -2266,8 +2266,8 @@ own_rides =
     ∷ record {
       start = beside;
       lines =
-          damage (length-is 96)
-          ∷ damage (m-is 1000000)
+          damage (length_is 96)
+          ∷ damage (m_is 1000000)
           ∷ call (begin 0 PutIn 30 130) 0 0
           ∷ call (step 0 6) 16 0
           ∷ [];
@@ -2295,8 +2295,8 @@ own_rides =
     ∷ record {
       start = beside;
       lines =
-          damage (length-is 96)
-          ∷ damage (m-is 999999)
+          damage (length_is 96)
+          ∷ damage (m_is 999999)
           ∷ call (begin 0 PutIn 5 105) 0 0
           ∷ call (step 0 6) 0 0
           ∷ [];
@@ -2389,7 +2389,7 @@ own_rides =
     ∷ record {
       start = anew 8;
       lines =
-          damage (length-is 47)
+          damage (length_is 47)
           ∷ call (begin 0 PutIn 10 110) 18 0
           ∷ [];
       after = same;
@@ -2399,7 +2399,7 @@ own_rides =
       start = beside;
       lines =
           call (begin 0 LookUp 10 0) 0 0
-          ∷ damage (length-is 47)
+          ∷ damage (length_is 47)
           ∷ call (step 0 1) 18 0
           ∷ [];
       after = same;
@@ -2409,7 +2409,7 @@ own_rides =
       start = beside;
       lines =
           call (begin 0 LookUp 10 0) 0 0
-          ∷ damage (length-is 47)
+          ∷ damage (length_is 47)
           ∷ call (abandon 0) 18 0
           ∷ [];
       after = same;
@@ -2418,7 +2418,7 @@ own_rides =
     ∷ record {
       start = beside;
       lines =
-          damage (length-is 47)
+          damage (length_is 47)
           ∷ call tidy 18 0
           ∷ [];
       after = same;
@@ -2427,7 +2427,7 @@ own_rides =
     ∷ record {
       start = beside;
       lines =
-          damage (length-is 47)
+          damage (length_is 47)
           ∷ call figures 18 0
           ∷ [];
       after = same;
@@ -2436,7 +2436,7 @@ own_rides =
     ∷ record {
       start = beside;
       lines =
-          damage (length-is 47)
+          damage (length_is 47)
           ∷ call (list 4) 18 0
           ∷ [];
       after = same;
@@ -2445,7 +2445,7 @@ own_rides =
     ∷ record {
       start = beside;
       lines =
-          damage (length-is 42)
+          damage (length_is 42)
           ∷ call figures 18 0
           ∷ [];
       after = same;
@@ -2454,7 +2454,7 @@ own_rides =
     ∷ record {
       start = beside;
       lines =
-          damage (length-is 49)
+          damage (length_is 49)
           ∷ call figures 18 0
           ∷ [];
       after = same;
@@ -2463,7 +2463,7 @@ own_rides =
     ∷ record {
       start = beside;
       lines =
-          damage (length-is 0)
+          damage (length_is 0)
           ∷ call figures 18 0
           ∷ [];
       after = same;
@@ -2472,7 +2472,7 @@ own_rides =
     ∷ record {
       start = beside;
       lines =
-          damage (length-is 54)
+          damage (length_is 54)
           ∷ call figures 0 0
           ∷ [];
       after = same;
@@ -2620,7 +2620,7 @@ own_rides =
     ∷ record {
       start = onward;
       lines =
-          damage (length-is 66)
+          damage (length_is 66)
           ∷ call (step 0 1) 6 0
           ∷ [];
       after =
@@ -2650,7 +2650,7 @@ own_rides =
     ∷ record {
       start = beside;
       lines =
-          damage (length-is 72)
+          damage (length_is 72)
           ∷ call (step 0 1) 0 0
           ∷ [];
       after =
@@ -2681,7 +2681,7 @@ own_rides =
     ∷ record {
       start = beside;
       lines =
-          damage (length-is 66)
+          damage (length_is 66)
           ∷ damage (field 2 0 2)
           ∷ call (step 0 1) 0 0
           ∷ damage (field 0 2 1)
@@ -2734,7 +2734,7 @@ own_rides =
     ∷ record {
       start = onward;
       lines =
-          damage (length-is 102)
+          damage (length_is 102)
           ∷ call (step 0 1) 6 0
           ∷ [];
       after =
@@ -2769,7 +2769,7 @@ own_rides =
     ∷ record {
       start = beside;
       lines =
-          damage (length-is 108)
+          damage (length_is 108)
           ∷ call (step 0 1) 0 0
           ∷ [];
       after =
@@ -2847,7 +2847,7 @@ own_rides =
     ∷ record {
       start = onward;
       lines =
-          damage (length-is 108)
+          damage (length_is 108)
           ∷ call (step 0 1) 6 0
           ∷ [];
       after =
@@ -2882,7 +2882,7 @@ own_rides =
     ∷ record {
       start = beside;
       lines =
-          damage (length-is 114)
+          damage (length_is 114)
           ∷ call (step 0 1) 0 0
           ∷ [];
       after =
@@ -2951,7 +2951,7 @@ own_rides =
     ∷ record {
       start = onward;
       lines =
-          damage (length-is 47)
+          damage (length_is 47)
           ∷ call (begin 8 LookUp 10 0) 18 0
           ∷ [];
       after = same;
@@ -2960,7 +2960,7 @@ own_rides =
     ∷ record {
       start = beside;
       lines =
-          damage (length-is 47)
+          damage (length_is 47)
           ∷ call (step 8 1) 18 0
           ∷ [];
       after = same;
@@ -2969,7 +2969,7 @@ own_rides =
     ∷ record {
       start = beside;
       lines =
-          damage (length-is 47)
+          damage (length_is 47)
           ∷ call (abandon 8) 18 0
           ∷ [];
       after = same;
@@ -2978,7 +2978,7 @@ own_rides =
     ∷ record {
       start = beside;
       lines =
-          damage (length-is 47)
+          damage (length_is 47)
           ∷ call (begin 0 LookUp 1000000 0) 18 0
           ∷ [];
       after = same;
@@ -2987,7 +2987,7 @@ own_rides =
     ∷ record {
       start = beside;
       lines =
-          damage (length-is 47)
+          damage (length_is 47)
           ∷ call (step 1 1) 18 0
           ∷ [];
       after = same;
@@ -2996,7 +2996,7 @@ own_rides =
     ∷ record {
       start = beside;
       lines =
-          damage (length-is 47)
+          damage (length_is 47)
           ∷ call (abandon 1) 18 0
           ∷ [];
       after = same;
@@ -3005,7 +3005,7 @@ own_rides =
     ∷ record {
       start = beside;
       lines =
-          damage (length-is 47)
+          damage (length_is 47)
           ∷ call tidy 18 0
           ∷ [];
       after = same;
@@ -3014,8 +3014,8 @@ own_rides =
     ∷ record {
       start = beside;
       lines =
-          damage (length-is 47)
-          ∷ damage (m-is 1000001)
+          damage (length_is 47)
+          ∷ damage (m_is 1000001)
           ∷ call figures 18 0
           ∷ [];
       after = same;
@@ -3024,8 +3024,8 @@ own_rides =
     ∷ record {
       start = beside;
       lines =
-          damage (length-is 47)
-          ∷ damage (m-is 1000001)
+          damage (length_is 47)
+          ∷ damage (m_is 1000001)
           ∷ call (list 9) 18 0
           ∷ [];
       after = same;
@@ -3042,7 +3042,7 @@ own_rides =
     ∷ record {
       start = beside;
       lines =
-          damage (m-is 1000001)
+          damage (m_is 1000001)
           ∷ call (step 8 1) 10 0
           ∷ [];
       after = same;
@@ -3051,7 +3051,7 @@ own_rides =
     ∷ record {
       start = beside;
       lines =
-          damage (m-is 1000001)
+          damage (m_is 1000001)
           ∷ call (abandon 8) 10 0
           ∷ [];
       after = same;
@@ -3076,7 +3076,7 @@ own_rides =
     ∷ record {
       start = beside;
       lines =
-          damage (m-is 1000001)
+          damage (m_is 1000001)
           ∷ call (begin 1 PutIn 1000000 5) 11 0
           ∷ [];
       after = same;
@@ -3085,7 +3085,7 @@ own_rides =
     ∷ record {
       start = beside;
       lines =
-          damage (m-is 1000001)
+          damage (m_is 1000001)
           ∷ call (begin 0 LookUp 10 0) 12 0
           ∷ [];
       after = same;
@@ -3094,7 +3094,7 @@ own_rides =
     ∷ record {
       start = beside;
       lines =
-          damage (m-is 1000001)
+          damage (m_is 1000001)
           ∷ call (step 1 1) 13 0
           ∷ [];
       after = same;
@@ -3103,7 +3103,7 @@ own_rides =
     ∷ record {
       start = beside;
       lines =
-          damage (m-is 1000001)
+          damage (m_is 1000001)
           ∷ call (abandon 1) 13 0
           ∷ [];
       after = same;
@@ -3112,7 +3112,7 @@ own_rides =
     ∷ record {
       start = beside;
       lines =
-          damage (m-is 1000001)
+          damage (m_is 1000001)
           ∷ call tidy 14 0
           ∷ [];
       after = same;
@@ -3130,7 +3130,7 @@ own_rides =
     ∷ record {
       start = beside;
       lines =
-          damage (m-is 1000000)
+          damage (m_is 1000000)
           ∷ damage (field 5 2 1)
           ∷ call (step 0 1) 17 0
           ∷ [];
@@ -3158,7 +3158,7 @@ own_rides =
     ∷ record {
       start = beside;
       lines =
-          damage (m-is 1000000)
+          damage (m_is 1000000)
           ∷ call (step 0 1) 16 0
           ∷ [];
       after =
@@ -3185,7 +3185,7 @@ own_rides =
     ∷ record {
       start = beside;
       lines =
-          damage (m-is 1000000)
+          damage (m_is 1000000)
           ∷ damage (field 5 0 2)
           ∷ call (step 0 1) 0 0
           ∷ damage (field 0 2 1)
@@ -3255,7 +3255,7 @@ own_rides =
     ∷ record {
       start = onward;
       lines =
-          damage (m-is 1000001)
+          damage (m_is 1000001)
           ∷ call (begin 1 LookUp 10 0) 17 0
           ∷ [];
       after = same;
@@ -3264,7 +3264,7 @@ own_rides =
     ∷ record {
       start = beside;
       lines =
-          damage (m-is 1000000)
+          damage (m_is 1000000)
           ∷ call (begin 1 LookUp 10 0) 0 0
           ∷ [];
       after =
@@ -3294,7 +3294,7 @@ own_rides =
     ∷ record {
       start = beside;
       lines =
-          damage (m-is 1000001)
+          damage (m_is 1000001)
           ∷ call (step 0 1) 17 0
           ∷ [];
       after = same;
@@ -3303,7 +3303,7 @@ own_rides =
     ∷ record {
       start = beside;
       lines =
-          damage (m-is 1000000)
+          damage (m_is 1000000)
           ∷ call (step 0 6) 0 0
           ∷ [];
       after =
@@ -3334,7 +3334,7 @@ own_rides =
     ∷ record {
       start = beside;
       lines =
-          damage (m-is 1000001)
+          damage (m_is 1000001)
           ∷ call (abandon 0) 17 0
           ∷ [];
       after = same;
@@ -3343,7 +3343,7 @@ own_rides =
     ∷ record {
       start = beside;
       lines =
-          damage (m-is 1000000)
+          damage (m_is 1000000)
           ∷ call (abandon 0) 6 0
           ∷ [];
       after =
@@ -3374,7 +3374,7 @@ own_rides =
       start = beside;
       lines =
           call (abandon 0) 6 0
-          ∷ damage (m-is 1000001)
+          ∷ damage (m_is 1000001)
           ∷ call tidy 17 0
           ∷ [];
       after = same;
@@ -3384,7 +3384,7 @@ own_rides =
       start = beside;
       lines =
           call (abandon 0) 6 0
-          ∷ damage (m-is 1000000)
+          ∷ damage (m_is 1000000)
           ∷ call tidy 0 0
           ∷ [];
       after =
@@ -3414,7 +3414,7 @@ own_rides =
     ∷ record {
       start = beside;
       lines =
-          damage (m-is 1000001)
+          damage (m_is 1000001)
           ∷ call figures 17 0
           ∷ [];
       after = same;
@@ -3423,7 +3423,7 @@ own_rides =
     ∷ record {
       start = beside;
       lines =
-          damage (m-is 1000000)
+          damage (m_is 1000000)
           ∷ call figures 0 0
           ∷ [];
       after = same;
@@ -3432,7 +3432,7 @@ own_rides =
     ∷ record {
       start = beside;
       lines =
-          damage (m-is 1000001)
+          damage (m_is 1000001)
           ∷ call (list 6) 17 0
           ∷ [];
       after = same;
@@ -3441,7 +3441,7 @@ own_rides =
     ∷ record {
       start = beside;
       lines =
-          damage (m-is 1000000)
+          damage (m_is 1000000)
           ∷ call (list 6) 0 0
           ∷ [];
       after = same;
@@ -3450,7 +3450,7 @@ own_rides =
     ∷ record {
       start = beside;
       lines =
-          damage (u-is 3)
+          damage (u_is 3)
           ∷ call (begin 1 LookUp 10 0) 17 0
           ∷ [];
       after = same;
@@ -3459,7 +3459,7 @@ own_rides =
     ∷ record {
       start = beside;
       lines =
-          damage (u-is 2)
+          damage (u_is 2)
           ∷ call (begin 1 LookUp 10 0) 0 0
           ∷ [];
       after =
@@ -3489,7 +3489,7 @@ own_rides =
     ∷ record {
       start = beside;
       lines =
-          damage (u-is 3)
+          damage (u_is 3)
           ∷ call (step 0 1) 17 0
           ∷ [];
       after = same;
@@ -3498,7 +3498,7 @@ own_rides =
     ∷ record {
       start = beside;
       lines =
-          damage (u-is 2)
+          damage (u_is 2)
           ∷ call (step 0 6) 0 0
           ∷ [];
       after =
@@ -3530,7 +3530,7 @@ own_rides =
       start = beside;
       lines =
           call (begin 1 LookUp 10 0) 0 0
-          ∷ damage (u-is 3)
+          ∷ damage (u_is 3)
           ∷ call (step 1 1) 17 0
           ∷ [];
       after = same;
@@ -3539,7 +3539,7 @@ own_rides =
     ∷ record {
       start = beside;
       lines =
-          damage (u-is 3)
+          damage (u_is 3)
           ∷ call (abandon 0) 17 0
           ∷ [];
       after = same;
@@ -3548,7 +3548,7 @@ own_rides =
     ∷ record {
       start = beside;
       lines =
-          damage (u-is 2)
+          damage (u_is 2)
           ∷ call (abandon 0) 6 0
           ∷ [];
       after =
@@ -3579,7 +3579,7 @@ own_rides =
       start = beside;
       lines =
           call (abandon 0) 6 0
-          ∷ damage (u-is 4)
+          ∷ damage (u_is 4)
           ∷ call tidy 17 0
           ∷ [];
       after = same;
@@ -3589,7 +3589,7 @@ own_rides =
       start = beside;
       lines =
           call (abandon 0) 6 0
-          ∷ damage (u-is 3)
+          ∷ damage (u_is 3)
           ∷ call tidy 0 0
           ∷ [];
       after =
@@ -3619,7 +3619,7 @@ own_rides =
     ∷ record {
       start = beside;
       lines =
-          damage (u-is 3)
+          damage (u_is 3)
           ∷ call figures 17 0
           ∷ [];
       after = same;
@@ -3628,7 +3628,7 @@ own_rides =
     ∷ record {
       start = beside;
       lines =
-          damage (u-is 2)
+          damage (u_is 2)
           ∷ call figures 0 0
           ∷ [];
       after = same;
@@ -3637,7 +3637,7 @@ own_rides =
     ∷ record {
       start = beside;
       lines =
-          damage (u-is 3)
+          damage (u_is 3)
           ∷ call (list 6) 17 0
           ∷ [];
       after = same;
@@ -3646,7 +3646,7 @@ own_rides =
     ∷ record {
       start = beside;
       lines =
-          damage (u-is 2)
+          damage (u_is 2)
           ∷ call (list 6) 0 0
           ∷ [];
       after = same;
@@ -3656,7 +3656,7 @@ own_rides =
       start = beside;
       lines =
           call (step 0 1) 0 0
-          ∷ damage (u-is 3)
+          ∷ damage (u_is 3)
           ∷ call figures 17 0
           ∷ [];
       after = same;
@@ -3666,7 +3666,7 @@ own_rides =
       start = beside;
       lines =
           call (step 0 4) 0 0
-          ∷ damage (u-is 3)
+          ∷ damage (u_is 3)
           ∷ call figures 17 0
           ∷ [];
       after = same;
@@ -3677,7 +3677,7 @@ own_rides =
       lines =
           call (begin 1 PutIn 40 140) 0 0
           ∷ call (step 1 1) 0 0
-          ∷ damage (u-is 2)
+          ∷ damage (u_is 2)
           ∷ call figures 0 0
           ∷ [];
       after = same;
@@ -3688,7 +3688,7 @@ own_rides =
       lines =
           call (begin 1 PutIn 40 140) 0 0
           ∷ call (step 1 7) 0 0
-          ∷ damage (u-is 3)
+          ∷ damage (u_is 3)
           ∷ call figures 17 0
           ∷ [];
       after = same;
@@ -3699,7 +3699,7 @@ own_rides =
       lines =
           call (begin 1 PutIn 40 140) 0 0
           ∷ call (step 1 7) 0 0
-          ∷ damage (u-is 2)
+          ∷ damage (u_is 2)
           ∷ call figures 0 0
           ∷ [];
       after = same;
@@ -3708,7 +3708,7 @@ own_rides =
     ∷ record {
       start = beside;
       lines =
-          damage (u-is 4294967295)
+          damage (u_is 4294967295)
           ∷ call figures 17 0
           ∷ [];
       after = same;
@@ -3717,7 +3717,7 @@ own_rides =
     ∷ record {
       start = beside;
       lines =
-          damage (m-is 0)
+          damage (m_is 0)
           ∷ call figures 17 0
           ∷ [];
       after = same;
@@ -3726,7 +3726,7 @@ own_rides =
     ∷ record {
       start = beside;
       lines =
-          damage (m-is 1)
+          damage (m_is 1)
           ∷ call figures 0 0
           ∷ [];
       after = same;
@@ -7190,7 +7190,7 @@ own_rides =
           ∷ damage (field 6 3 28)
           ∷ damage (field 6 4 1)
           ∷ damage (field 6 5 3)
-          ∷ damage (length-is 66)
+          ∷ damage (length_is 66)
           ∷ call (step 0 1) 17 0
           ∷ [];
       after = same;
@@ -7206,7 +7206,7 @@ own_rides =
           ∷ damage (field 6 3 27)
           ∷ damage (field 6 4 1)
           ∷ damage (field 6 5 3)
-          ∷ damage (length-is 66)
+          ∷ damage (length_is 66)
           ∷ call (step 0 1) 6 0
           ∷ [];
       after =

@@ -27,9 +27,9 @@ pub data Act : Type 0 where
 -- slot, field (0 state, 1 number, 2 price, 3 rank, 4 left, 5 right), value; and the like
 pub data Hurting : Type 0 where
   field : ℕ → ℕ → ℕ → Hurting
-  m-is : ℕ → Hurting
-  u-is : ℕ → Hurting
-  length-is : ℕ → Hurting
+  m_is : ℕ → Hurting
+  u_is : ℕ → Hurting
+  length_is : ℕ → Hurting
   task_is : ℕ → Task → Hurting
 
 -- a call with the answer's number and price (step: with the exact count of steps), or damage

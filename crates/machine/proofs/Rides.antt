@@ -41,7 +41,7 @@ use Rattle.machine.specs.Reach.{reachable, reach_from, reach, larger, deeper}
 use Rattle.machine.specs.Allowed.{fibonacci, at_most, allowed_rank}
 use Rattle.machine.specs.Calls.{reset_of, begin_of, abandon_of, tidy_of, figures_of, list_of, empty_table, abandoned_out, sweep, tidy_reached, figures_reached, list_reached}
 use Rattle.machine.specs.CallFile.{two, four, no_job, begins, steps as stepsRecord, abandons, tidies, operation_of, by_operation, decode, run_of, serve, printed, line_of, end_line, record_of, lines_from, program_of}
-use Rattle.machine.proofs.Ride.{From, anew, onward, beside, Act, reset, begin, step, abandon, tidy, figures, list, Hurting, field, m-is, u-is, length-is, task_is, Line, call, damage, Outcome, After, same, left, Ride, busy}
+use Rattle.machine.proofs.Ride.{From, anew, onward, beside, Act, reset, begin, step, abandon, tidy, figures, list, Hurting, field, m_is, u_is, length_is, task_is, Line, call, damage, Outcome, After, same, left, Ride, busy}
 use Rattle.machine.proofs.DocumentRides.{document_rides}
 use Rattle.machine.proofs.OwnRides.{own_rides}
 use Rattle.machine.proofs.ResetRides.{reset_rides}
@@ -245,9 +245,9 @@ acted w (list n) a b =
 hurt_by : World → Hurting → World
 unfolding place
 hurt_by w (field s f x) = record { table = set w.table (place s f) x; state = w.state; oldTable = w.table; oldState = w.state; settled = w.settled; fine = w.fine }
-hurt_by w (m-is x) = record { table = w.table; state = record { tasks = w.state.tasks; m = x; u = w.state.u }; oldTable = w.table; oldState = w.state; settled = w.settled; fine = w.fine }
-hurt_by w (u-is x) = record { table = w.table; state = record { tasks = w.state.tasks; m = w.state.m; u = x }; oldTable = w.table; oldState = w.state; settled = w.settled; fine = w.fine }
-hurt_by w (length-is l) = record { table = take l (w.table ++ replicate l 0); state = w.state; oldTable = w.table; oldState = w.state; settled = w.settled; fine = w.fine }
+hurt_by w (m_is x) = record { table = w.table; state = record { tasks = w.state.tasks; m = x; u = w.state.u }; oldTable = w.table; oldState = w.state; settled = w.settled; fine = w.fine }
+hurt_by w (u_is x) = record { table = w.table; state = record { tasks = w.state.tasks; m = w.state.m; u = x }; oldTable = w.table; oldState = w.state; settled = w.settled; fine = w.fine }
+hurt_by w (length_is l) = record { table = take l (w.table ++ replicate l 0); state = w.state; oldTable = w.table; oldState = w.state; settled = w.settled; fine = w.fine }
 hurt_by w (task_is i k) = record { table = w.table; state = with_task w.state i k; oldTable = w.table; oldState = w.state; settled = w.settled; fine = w.fine }
 
 -- before the last call: where its line began

@@ -1,70 +1,70 @@
 // The probe: one call after another, each on a table and a state that are handed in (docs/PROBE.md).
 #![tactic(auto)]
+
 ghost use Rattle.std.specs.Prelude.{◌≡◌, ◌*◌, ◌≤◌, ◌<◌, length};
 
 use beginning::{abandon, begin};
 use callfile::{operation_of, price_of};
-use libc::{STDIN_FILENO, STDOUT_FILENO};
+use playing::read_full;
 use resetting::reset;
 use state::number_of;
 use statecode::{GotState, read_state, write_state};
+use std::io;
+use std::io::{BufReader, LineWriter, Read, Write};
 use stepping::step;
 use terms::{Answer, Figures, Job, Out, State};
 use whole::{figures, list, tidy};
 use words::four_at;
 
-fn print_number(n: u32) {
-    io::write_all(STDOUT_FILENO, b" ");
-    io::print_decimal(STDOUT_FILENO, n as u64);
+fn print_number<W: Write>(out: &mut W, n: u32) -> io::Result<()> {
+    write!(out, " {n}")
 }
 
-fn print_word(w: &[u8]) {
-    io::write_all(STDOUT_FILENO, w);
+fn print_word<W: Write>(out: &mut W, w: &[u8]) -> io::Result<()> {
+    out.write_all(w)
 }
 
-fn end_line() {
-    io::write_all(STDOUT_FILENO, b"\n");
+fn end_line<W: Write>(out: &mut W) -> io::Result<()> {
+    out.write_all(b"\n")
 }
 
 // Numbers of a slice, on one line behind a word.
-fn print_numbers(w: &[u8], t: &[u32]) {
-    print_word(w);
-    let mut i: usize = 0;
-    while i < t.len() {
-        print_number(t[i]);
-        i += 1;
+fn print_numbers<W: Write>(out: &mut W, w: &[u8], t: &[u32]) -> io::Result<()> {
+    print_word(out, w)?;
+    for n in t {
+        print_number(out, *n)?;
     }
-    end_line();
+    end_line(out)
 }
 
-fn print_answer(a: Answer) {
-    print_word(b"answer");
-    print_number(number_of(a));
-    print_number(price_of(a));
-    end_line();
+fn print_answer<W: Write>(out: &mut W, a: Answer) -> io::Result<()> {
+    print_word(out, b"answer")?;
+    print_number(out, number_of(a))?;
+    print_number(out, price_of(a))?;
+    end_line(out)
 }
 
 // What is no probe.
-fn print_no_probe() {
-    print_word(b"answer 40 0\n");
+fn print_no_probe<W: Write>(out: &mut W) -> io::Result<()> {
+    print_word(out, b"answer 40 0\n")
 }
 
-fn print_figures(f: Figures) {
-    print_word(b"figures");
-    print_number(f.height);
-    print_number(f.level);
-    print_number(f.c);
-    print_number(f.m);
-    print_number(f.fares);
-    print_number(f.free);
-    print_number(f.allowed);
-    end_line();
+fn print_figures<W: Write>(out: &mut W, f: Figures) -> io::Result<()> {
+    print_word(out, b"figures")?;
+    print_number(out, f.height)?;
+    print_number(out, f.level)?;
+    print_number(out, f.c)?;
+    print_number(out, f.m)?;
+    print_number(out, f.fares)?;
+    print_number(out, f.free)?;
+    print_number(out, f.allowed)?;
+    end_line(out)
 }
 
-fn print_state(st: State) {
+fn print_state<W: Write>(out: &mut W, st: State) -> io::Result<()> {
     let mut w = [0u32; 122];
     write_state(&mut w, st);
-    print_numbers(b"state", &w);
+    print_numbers(out, b"state", &w)
 }
 
 // The seven numbers before state and table.
@@ -125,39 +125,39 @@ fn state_of(b: &[u8; 488]) -> GotState {
     read_state(&w)
 }
 
-fn print_out(o: Out) -> State {
+fn print_out<W: Write>(out: &mut W, o: Out) -> io::Result<State> {
     let a = o.answer;
-    print_answer(a);
-    o.state
+    print_answer(out, a)?;
+    Ok(o.state)
 }
 
-fn make_figures(t: &[u32], st: State) -> State {
+fn make_figures<W: Write>(out: &mut W, t: &[u32], st: State) -> io::Result<State> {
     let r = figures(t, st);
     let a = r.answer;
-    print_answer(a);
+    print_answer(out, a)?;
     let f = r.figures;
-    print_figures(f);
-    st
+    print_figures(out, f)?;
+    Ok(st)
 }
 
 // A list in the room lent.
-fn list_in(t: &[u32], st: State, room: &mut [u32]) {
+fn list_in<W: Write>(out: &mut W, t: &[u32], st: State, room: &mut [u32]) -> io::Result<()> {
     let a = list(t, st, room);
-    print_answer(a);
-    print_numbers(b"room", room);
+    print_answer(out, a)?;
+    print_numbers(out, b"room", room)
 }
 
 // A list in a room of so many sevens.
-fn make_list(t: &[u32], st: State, room: usize) -> State
+fn make_list<W: Write>(out: &mut W, t: &[u32], st: State, room: usize) -> io::Result<State>
     requires { room ≤ 8192 }
 {
     let mut r = [7u32; 8192];
-    list_in(t, st, &mut r[..room]);
-    st
+    list_in(out, t, st, &mut r[..room])?;
+    Ok(st)
 }
 
 // The call is made, its answer printed; the state after it.
-fn make(t: &mut [u32], st: State, a: Ask) -> State
+fn make<W: Write>(out: &mut W, t: &mut [u32], st: State, a: Ask) -> io::Result<State>
     requires { a.room ≤ 8192 }
 {
     let j = Job {
@@ -166,87 +166,98 @@ fn make(t: &mut [u32], st: State, a: Ask) -> State
     };
     let call = a.call;
     match call {
-        0 => print_out(reset(t, st)),
-        1 => print_out(begin(t, st, a.task, operation_of(a.operation), j)),
-        2 => print_out(step(t, st, a.task)),
-        3 => print_out(abandon(t, st, a.task)),
-        4 => print_out(tidy(t, st)),
-        5 => make_figures(t, st),
-        _ => make_list(t, st, a.room as usize),
+        0 => print_out(out, reset(t, st)),
+        1 => print_out(out, begin(t, st, a.task, operation_of(a.operation), j)),
+        2 => print_out(out, step(t, st, a.task)),
+        3 => print_out(out, abandon(t, st, a.task)),
+        4 => print_out(out, tidy(t, st)),
+        5 => make_figures(out, t, st),
+        _ => make_list(out, t, st, a.room as usize),
     }
 }
 
 // The table is read, the call made, everything printed; whether the input went so far.
-fn probe_lent(st: State, a: Ask, t: &mut [u32], bytes: &mut [u8]) -> bool
+fn probe_lent<R: Read, W: Write>(
+    input: &mut R,
+    out: &mut W,
+    st: State,
+    a: Ask,
+    t: &mut [u32],
+    bytes: &mut [u8],
+) -> io::Result<bool>
     requires { (a.room ≤ 8192) × (length bytes.old ≡ 4 * length t.old) × (length t.old ≤ 24600) }
 {
-    let n = io::read_full(STDIN_FILENO, bytes);
+    let n = read_full(input, bytes)?;
     if n < bytes.len() {
-        return false;
+        return Ok(false);
     }
     fill_numbers(t, bytes);
-    print_state(make(t, st, a));
-    print_numbers(b"table", t);
-    true
+    let after = make(out, t, st, a)?;
+    print_state(out, after)?;
+    print_numbers(out, b"table", t)?;
+    Ok(true)
 }
 
 // Room for the table and its bytes.
-fn probe_table(st: State, a: Ask) -> bool
+fn probe_table<R: Read, W: Write>(input: &mut R, out: &mut W, st: State, a: Ask) -> io::Result<bool>
     requires { (a.room ≤ 8192) × (a.length ≤ 24600) }
 {
     let l = a.length as usize;
     let k = 4 * l;
     let mut bytes = [0u8; 98400];
     let mut t = [0u32; 24600];
-    probe_lent(st, a, &mut t[..l], &mut bytes[..k])
+    probe_lent(input, out, st, a, &mut t[..l], &mut bytes[..k])
 }
 
 // One probe, whose first seven numbers are read.
-fn probe_one(a: Ask) -> bool {
+fn probe_one<R: Read, W: Write>(input: &mut R, out: &mut W, a: Ask) -> io::Result<bool> {
     if !ask_is_call(a) {
-        return false;
+        return Ok(false);
     }
     if 8192 < a.room {
-        return false;
+        return Ok(false);
     }
     if 24600 < a.length {
-        return false;
+        return Ok(false);
     }
     let mut b = [0u8; 488];
-    let n = io::read_full(STDIN_FILENO, &mut b);
+    let n = read_full(input, &mut b)?;
     if n < 488 {
-        return false;
+        return Ok(false);
     }
     let g = state_of(&b);
     if !g.fine {
-        return false;
+        return Ok(false);
     }
     let st = g.state;
-    probe_table(st, a)
+    probe_table(input, out, st, a)
 }
 
 // Whether there may be another one.
-fn turn() -> bool {
+fn turn<R: Read, W: Write>(input: &mut R, out: &mut W) -> io::Result<bool> {
     let mut b = [0u8; 28];
-    let n = io::read_full(STDIN_FILENO, &mut b);
+    let n = read_full(input, &mut b)?;
     if n == 0 {
-        return false;
+        return Ok(false);
     }
     if n < 28 {
-        print_no_probe();
-        return false;
+        print_no_probe(out)?;
+        return Ok(false);
     }
-    let fine = probe_one(ask_of(&b));
+    let fine = probe_one(input, out, ask_of(&b))?;
     if !fine {
-        print_no_probe();
+        print_no_probe(out)?;
     }
-    fine
+    Ok(fine)
 }
 
 // The loop counts its turns: a proved loop has to end.
-fn main() {
+fn main(rt: HostRuntime) -> io::Result<()> {
+    let mut input = BufReader::new(rt.alloc(), rt.stdin())?;
+    let mut out = LineWriter::new(rt.alloc(), rt.stdout())?;
     let mut turns = u64::MAX;
-    while turns > 0 && turn() {
+    while turns > 0 && turn(&mut input, &mut out)? {
         turns -= 1;
     }
+    out.flush()
 }

@@ -1,5 +1,6 @@
 // The fare table for C and Rust: table and state are lent as slices of 32-bit numbers, an answer is its number
-// (docs/INTERFACE.md). Each call is one equation to its definition, and none has a `requires`.
+// (docs/INTERFACE.md). Each call is one equation to its definition, and none has a `requires`. The crate tiebeamer_c
+// exports the calls under C's names, with the same clauses.
 #![tactic(auto)]
 
 ghost use Rattle.std.specs.Prelude.{◌≡◌, true, false, ◌≤◌, ◌<◌, length, get_or};
@@ -39,8 +40,7 @@ fn hand_back(state: &mut [u32], o: Out) -> u32
     number_of(a)
 }
 
-#[unsafe(no_mangle)]
-pub extern "C" fn tiebeamer_reset(table: &mut [u32], state: &mut [u32]) -> u32
+pub fn tiebeamer_reset(table: &mut [u32], state: &mut [u32]) -> u32
     ensures { told result 0 table.new state.new ≡ reset_told table.old state.old }
 {
     let g = read_state(state);
@@ -80,8 +80,7 @@ fn begin_by(t: &[u32], w: &mut [u32], i: u32, o: Operation, j: Job) -> Answer
 }
 
 // The operation is 1 look up, 2 put in, 3 take out.
-#[unsafe(no_mangle)]
-pub extern "C" fn tiebeamer_begin(
+pub fn tiebeamer_begin(
     table: &[u32],
     state: &mut [u32],
     task: u32,
@@ -269,13 +268,7 @@ fn run_by(t: &mut [u32], w: &mut [u32], i: u32, count: u32) -> Answer
     }
 }
 
-#[unsafe(no_mangle)]
-pub extern "C" fn tiebeamer_step(
-    table: &mut [u32],
-    state: &mut [u32],
-    task: u32,
-    price: &mut u32,
-) -> u32
+pub fn tiebeamer_step(table: &mut [u32], state: &mut [u32], task: u32, price: &mut u32) -> u32
     ensures { told result price.new table.new state.new ≡ step_told table.old state.old task price.old }
 {
     if !is_state(state) {
@@ -287,8 +280,7 @@ pub extern "C" fn tiebeamer_step(
 }
 
 // So many steps, as long as they answer 0.
-#[unsafe(no_mangle)]
-pub extern "C" fn tiebeamer_run(
+pub fn tiebeamer_run(
     table: &mut [u32],
     state: &mut [u32],
     task: u32,
@@ -338,8 +330,7 @@ fn abandon_by(t: &[u32], w: &mut [u32], i: u32) -> Answer
     Answer::Accepted
 }
 
-#[unsafe(no_mangle)]
-pub extern "C" fn tiebeamer_abandon(table: &[u32], state: &mut [u32], task: u32) -> u32
+pub fn tiebeamer_abandon(table: &[u32], state: &mut [u32], task: u32) -> u32
     ensures { told result 0 table.now state.new ≡ abandon_told table.now state.old task }
 {
     if !is_state(state) {
@@ -349,8 +340,7 @@ pub extern "C" fn tiebeamer_abandon(table: &[u32], state: &mut [u32], task: u32)
     number_of(a)
 }
 
-#[unsafe(no_mangle)]
-pub extern "C" fn tiebeamer_tidy(table: &mut [u32], state: &mut [u32]) -> u32
+pub fn tiebeamer_tidy(table: &mut [u32], state: &mut [u32]) -> u32
     ensures { told result 0 table.new state.new ≡ tidy_told table.old state.old }
 {
     let g = read_state(state);
@@ -372,8 +362,7 @@ fn put_figures(places: &mut [u32; 7], f: Figures)
 }
 
 // Height, level records, c, m, fares, free slots and the allowed rank.
-#[unsafe(no_mangle)]
-pub extern "C" fn tiebeamer_figures(table: &[u32], state: &[u32], places: &mut [u32; 7]) -> u32
+pub fn tiebeamer_figures(table: &[u32], state: &[u32], places: &mut [u32; 7]) -> u32
     ensures { shown result places.new ≡ figures_shown table.now state.now places.old }
 {
     let g = read_state(state);
@@ -393,8 +382,7 @@ pub extern "C" fn tiebeamer_figures(table: &[u32], state: &[u32], places: &mut [
 }
 
 // Number and price of each fare, into the room lent.
-#[unsafe(no_mangle)]
-pub extern "C" fn tiebeamer_list(table: &[u32], state: &[u32], room: &mut [u32]) -> u32
+pub fn tiebeamer_list(table: &[u32], state: &[u32], room: &mut [u32]) -> u32
     ensures { shown result room.new ≡ list_shown table.now state.now room.old }
 {
     let g = read_state(state);

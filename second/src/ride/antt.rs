@@ -164,16 +164,16 @@ fn named(operation: Operation) -> &'static str {
 fn told_damage(damage: &Damage) -> String {
     match *damage {
         Damage::Field { slot, field, value } => format!("(field {slot} {field} {value})"),
-        Damage::M(m) => format!("(m-is {m})"),
-        Damage::U(u) => format!("(u-is {u})"),
-        Damage::Length(length) => format!("(length-is {length})"),
-        Damage::Task { task, left } => format!("(task-is {task} {})", told_task(left)),
+        Damage::M(m) => format!("(m_is {m})"),
+        Damage::U(u) => format!("(u_is {u})"),
+        Damage::Length(length) => format!("(length_is {length})"),
+        Damage::Task { task, left } => format!("(task_is {task} {})", told_task(left)),
     }
 }
 
 fn told_task(task: Task) -> String {
     match task {
-        Task::Idle => "idleTask".into(),
+        Task::Idle => "idle_task".into(),
         Task::Busy(Busy {
             number,
             price,
