@@ -1,22 +1,18 @@
 -- The laws of a call file's records: the run of operation 4 a step at a time, a record's line.
 use mathlib.Core.Path.{◌≡◌, refl, sym, subst, ◌∙◌}
-use mathlib.Core.Bool.{Bool, true, false, not, ◌&&◌}
+use mathlib.Core.Bool.{true, false, not, ◌&&◌}
 use mathlib.Core.List.{List}
-use Prim.Native.Nat.{ℕ, zero, suc, ◌+◌, ◌-◌, ◌≤◌, ◌<◌}
+use Prim.Native.Nat.{ℕ, zero, suc, ◌-◌, ◌≤◌}
 use native.Mathlib.Omega.{arith}
 use lib.Dec.{eqb}
-use borrow.Author.Tests.{eq-eqb, ne_eqb, not-true, not-false}
-use Rattle.terms.specs.declared.Job.{Job}
-use Rattle.terms.specs.declared.Operation.{Operation}
+use borrow.Author.Tests.{ne_eqb, not-true, not-false}
 use Rattle.terms.specs.declared.State.{State}
 use Rattle.terms.specs.declared.Out.{Out}
 use Rattle.terms.specs.declared.Call.{Call}
-use Rattle.terms.specs.declared.Call.TheVariants.{Begin, Steps, Abandon, Tidy, Bad}
-use Rattle.terms.specs.declared.Answer.TheVariants.{Accepted, BadRecord}
+use Rattle.terms.specs.declared.Answer.TheVariants.{Accepted}
 use Rattle.machine.specs.Answers.{number_of}
 use Rattle.machine.specs.Contract.{after}
 use Rattle.machine.specs.Step.{Left, step_of}
-use Rattle.machine.specs.Calls.{begin_of, abandon_of, tidy_of}
 use Rattle.machine.specs.CallFile.{decode, run_of, serve, line_of, record_of}
 use Rattle.machine.proofs.Tests.{both-second}
 use Rattle.callfile.specs.declared.Line.{Line}

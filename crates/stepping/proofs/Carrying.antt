@@ -1,40 +1,25 @@
 -- What was played is carried out on the state, whose counts are small.
 use mathlib.Core.Path.{◌≡◌, refl, sym, ap, ◌∙◌}
-use mathlib.Core.Bool.{Bool, true, false, not, ◌&&◌}
+use mathlib.Core.Bool.{Bool, true, ◌&&◌}
 use mathlib.Core.List.{List}
-use Prim.Native.Nat.{ℕ, ◌+◌, ◌≤◌, ◌<◌}
+use Prim.Native.Nat.{ℕ, ◌+◌, ◌≤◌}
 use native.Mathlib.Omega.{arith}
 use lib.Dec.{leb}
-use lib.ListN.{length}
-use borrow.Author.Tests.{le-ltb, lt-ltb, not-false, leb-true}
-use Rattle.terms.specs.declared.Path.{Path}
+use borrow.Author.Tests.{leb-true}
 use Rattle.terms.specs.declared.Job.{Job}
-use Rattle.terms.specs.declared.Goal.{Goal}
-use Rattle.terms.specs.declared.PutStage.{PutStage}
-use Rattle.terms.specs.declared.TakeStage.{TakeStage}
-use Rattle.terms.specs.declared.SettleStage.{SettleStage}
 use Rattle.terms.specs.declared.Phase.{Phase}
-use Rattle.terms.specs.declared.Phase.TheVariants.{Start, Walk, PuttingIn, TakingOut, Settling}
 use Rattle.terms.specs.declared.Work.{Work}
-use Rattle.terms.specs.declared.Work.TheVariants.{Idle, Busy}
+use Rattle.terms.specs.declared.Work.TheVariants.{Busy}
 use Rattle.terms.specs.declared.State.{State}
-use Rattle.terms.specs.declared.Turn.{Turn}
 use Rattle.terms.specs.declared.Out.{Out}
 use Rattle.terms.specs.declared.Outcome.{Outcome}
-use Rattle.terms.specs.declared.Answer.TheVariants.{TaskNumber, TaskIdle, Damaged, Length}
-use Rattle.terms.specs.Task.{no_grand}
 use Rattle.machine.specs.Choice.{if_b}
-use Rattle.machine.specs.Table.{view, length_fits, slots}
-use Rattle.machine.specs.State.{task_at, settling, count_open, sound, job_fits}
-use Rattle.machine.specs.Walk.{walk_from, walk_on}
-use Rattle.machine.specs.Commit.{Did, calm}
+use Rattle.machine.specs.Table.{view, slots}
+use Rattle.machine.specs.State.{settling, count_open, sound, job_fits}
+use Rattle.machine.specs.Commit.{Did}
 use Rattle.machine.specs.Contract.{after, acted, played, Played, turned_out}
-use Rattle.machine.specs.PutIn.{put_step}
-use Rattle.machine.specs.TakeOut.{take_step}
-use Rattle.machine.specs.Settling.{settle_step}
-use Rattle.machine.specs.Step.{Left, phase_step, turned, answered, carried, step_work, step_of}
+use Rattle.machine.specs.Step.{Left, phase_step, turned, answered, carried, step_work}
 use Rattle.machine.proofs.Tests.{both_first, both-second}
-use Rattle.machine.proofs.Writes.{quiet}
 
 -- what was played, carried out on the state
 finish : State → ℕ → Played → Left

@@ -1,5 +1,6 @@
 // Step: the refusals in their order, then what the task's phase asks for.
 #![tactic(auto)]
+
 ghost use Rattle.std.specs.Prelude.{◌≡◌, ◌+◌, ◌-◌, ◌*◌, ◌/◌, ◌≤◌, ◌<◌, length};
 ghost use Rattle.machine.specs.Contract.{Sized, after, acted, played};
 ghost use Rattle.machine.specs.Table.{view, slots};

@@ -1,5 +1,6 @@
 // The types of document 01, shared by its definitions and by the code, and what a task does by itself.
 #![tactic(auto)]
+
 ghost use Rattle.std.specs.Prelude.{◌≡◌};
 ghost use Rattle.terms.specs.Task.{idle_task, begun, noted, noted_put, noted_take, noted_settle, noted_phase, goal_of, restarted, abandoned, goal_settles, work_settles, is_busy};
 

@@ -7,7 +7,7 @@ use native.Mathlib.Omega.{arith}
 use lib.Dec.{eqb, leb}
 use borrow.Author.Tests.{leb-true, not-false}
 use Rattle.std.proofs.lemmas.Grind.{common_steps}
-use lib.ListN.{length, get_or}
+use lib.ListN.{get_or}
 use Rattle.terms.specs.declared.Task.{Task}
 use Rattle.terms.specs.declared.State.{State}
 use Rattle.terms.specs.declared.Answer.{Answer}

@@ -1,5 +1,6 @@
 // Numbers out of bytes, low byte first.
 #![tactic(auto)]
+
 ghost use Rattle.std.specs.Prelude.{◌≡◌, ◌+◌, ◌*◌, ◌≤◌, ◌<◌, length};
 ghost use Rattle.machine.specs.CallFile.{two, four};
 

@@ -8,7 +8,8 @@ slots_of-requires c = fits-most _ _ c.length_fits.ensures (ap not c.if-not-lengt
 
 pub step_work-requires : goal.step_work-requires
 step_work-requires c =
-    let f = ap not c.if-not-length_fits.false in
-    ((rw c.slots_of.ensures (sixes _ _ c.length_fits.ensures f), rw c.slots_of.ensures (slots-most _ _ c.length_fits.ensures f)),
-    c.slots_of.ensures,
-    omega arith)
+    let f = ap not c.if-not-length_fits.false in (
+      (rw c.slots_of.ensures (sixes _ _ c.length_fits.ensures f), rw c.slots_of.ensures (slots-most _ _ c.length_fits.ensures f)),
+      c.slots_of.ensures,
+      omega arith,
+    )

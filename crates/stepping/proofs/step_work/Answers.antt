@@ -4,10 +4,11 @@ use Rattle.stepping.proofs.Carrying.{goes-row, m_small, u_small}
 use Rattle.stepping.proofs.step_work.Goals as goal
 
 pub turn_out-requires : goal.turn_out-requires
-turn_out-requires c =
-    (search rules,
-    m_small _ _ _ c.is_sound.ensures c.if-not-is_sound-job_fits.false,
-    u_small _ _ _ c.is_sound.ensures c.if-not-is_sound-job_fits.false)
+turn_out-requires c = (
+  search rules,
+  m_small _ _ _ c.is_sound.ensures c.if-not-is_sound-job_fits.false,
+  u_small _ _ _ c.is_sound.ensures c.if-not-is_sound-job_fits.false,
+)
 
 pub returns-else-not-is_sound-job_fits : goal.returns-else-not-is_sound-job_fits
 returns-else-not-is_sound-job_fits c =

@@ -1,4 +1,4 @@
-use Rattle.std.proofs.Common.{refl, ap, not, arith}
+use Rattle.std.proofs.Common.{ap, not, arith}
 use Rattle.machine.proofs.Tests.{fits-most, sixes, slots-most}
 use Rattle.tiebeamer.proofs.Walks.{low-phase, high-phase}
 use Rattle.tiebeamer.proofs.step_by.Goals as goal

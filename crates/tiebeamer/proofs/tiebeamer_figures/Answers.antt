@@ -1,4 +1,3 @@
-use Rattle.std.proofs.Common.{ap, not}
 use Rattle.tiebeamer.proofs.Rows.{figures-none, figures-refused, figures-made}
 use Rattle.tiebeamer.proofs.tiebeamer_figures.Goals as goal
 

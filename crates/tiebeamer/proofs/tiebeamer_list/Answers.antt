@@ -1,4 +1,3 @@
-use Rattle.std.proofs.Common.{ap, not}
 use Rattle.tiebeamer.proofs.Rows.{list-none, list-made}
 use Rattle.tiebeamer.proofs.tiebeamer_list.Goals as goal
 

@@ -1,4 +1,3 @@
-use Rattle.std.proofs.Common.{ap, not}
 use Rattle.tiebeamer.proofs.Rows.{fine-length, reset-none, reset-made}
 use Rattle.tiebeamer.proofs.tiebeamer_reset.Goals as goal
 

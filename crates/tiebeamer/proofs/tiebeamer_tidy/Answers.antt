@@ -1,4 +1,3 @@
-use Rattle.std.proofs.Common.{ap, not}
 use Rattle.tiebeamer.proofs.Rows.{tidy-none, tidy-made}
 use Rattle.tiebeamer.proofs.Begins.{tidy-kept}
 use Rattle.tiebeamer.proofs.tiebeamer_tidy.Goals as goal
