@@ -1,11 +1,13 @@
 #!/usr/bin/env python3
 """Turns the names of this repository's own definitions and lemmas to the library's spelling.
 
-usage: python3 tools/respell.py [--list]     at the top of the repository, once, after the kit's port.py
+usage: python3 tools/respell.py [--list | --rest]     at the top of the repository, once, after the kit's port.py
 
 A definition `heldAt` becomes `held_at`. A fact `Demand-2` becomes `Demand2`. In a lemma's name the dash behind the
 longest definition's name that it begins with stays, as in `put-fill`, and any other dash becomes an underscore.
-Names that the check makes (in proofs/F/) and names of src/ stay. --list prints the pairs and changes nothing.
+Then the names that stand inside a record or a module (the rest) get underscores throughout, as `on_the_walk`. Names that
+the check makes (in proofs/F/) and names of src/ stay. --list prints the first pairs and changes nothing; --rest turns the rest
+alone.
 """
 
 import os
@@ -104,12 +106,21 @@ def quoted(text, to):
     return re.sub(r"(?m)^    .*$", lambda m: turn(m.group(0), to), text)
 
 
-def main():
-    to = pairs()
-    if "--list" in sys.argv:
-        for a, b in sorted(to.items()):
-            print(a, b)
-        return
+LINE = re.compile(r"^\s*(?:(?:unfoldable|abbrev) )?(?:pub )?(?:(?:data|record|ruleset) )?([^\s(){}\[\];:,.]+)(?: \{[^}]*\})*(?: \([^)]*\))* (?::|=)(?=\s|$)")
+
+
+def rest():
+    """What the first pass did not see, each line by itself."""
+    names = set()
+    for p in files(".antt"):
+        if lemma_file(p):
+            names |= {m.group(1) for m in map(LINE.match, read(p).split("\n")) if m}
+    heads = {n for n in names if "-" not in n and len(n) > 1}
+    turned = {n: snake(n.replace("-", "_")) for n in names if re.match(r"[a-z]", n) and respelt(n, heads) != n}
+    return {a: b for a, b in turned.items() if b not in names}
+
+
+def turn_all(to):
     code = {a: b for a, b in to.items() if a not in LEMMAS}
     for p in files(".antt", ".rt", ".edit", ".md"):
         old = read(p)
@@ -117,6 +128,16 @@ def main():
         if new != old:
             with open(p, "w", encoding="utf-8") as f:
                 f.write(new)
+
+
+def main():
+    if "--list" in sys.argv:
+        for a, b in sorted(pairs().items()):
+            print(a, b)
+        return
+    if "--rest" not in sys.argv:
+        turn_all(pairs())
+    turn_all(rest())
 
 
 if __name__ == "__main__":

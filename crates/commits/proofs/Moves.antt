@@ -35,7 +35,7 @@ module _ (w : View) (q h kh ph rh a K RK l kl pl rl m km pm rm : ℕ) (oh : Off 
     paths = λ k. patch (drop oh done);
     y_in = omega (arith, ind-same h);
     x_in = omega (arith, ind-same a);
-    y-lost = gone w q h (node a K RK (leaf l kl pl rl) (leaf m km pm rm)) ran oh;
+    y_lost = gone w q h (node a K RK (leaf l kl pl rl) (leaf m km pm rm)) ran oh;
     no-new = λ b d. omega (arith, lvs-le q RK (ind b a), ind-other b a d, lvs-not RK rl (ind b l) nl, lvs-not RK rm (ind b m) nm);
   }
 
@@ -51,19 +51,19 @@ module _ (w : View) (q : ℕ) (b : Bool) (z z' key r : ℕ) (X S : Tree) (oz : O
   pub promote : ((s : ℕ) → occ s low ≤ 1) → ((s : ℕ) → occ s high ≤ 1) → lv r (rank X) ≡ true → rank S ≤ r → Local w q z' (root X) low high
   promote once once' lx hs = record {
     paths = λ k. elim (side-or b k key) [
-      | inl n ↦ rw (route-near b k z key r X S n, route-near b k z' key (suc r) X S n) (patch (drop oz (add (rest (λ a. above_root k a X (omega (arith, x-once)))))))
-      | inr f ↦ rw (route-far b k z key r X S f, route-far b k z' key (suc r) X S f) (patch (drop oz (add (rest (λ a. above_none k (root X) a S (omega (arith, x-once)))))))
+      | inl n ↦ rw (route-near b k z key r X S n, route-near b k z' key (suc r) X S n) (patch (drop oz (add (rest (λ a. above_root k a X (omega (arith, x_once)))))))
+      | inr f ↦ rw (route-far b k z key r X S f, route-far b k z' key (suc r) X S f) (patch (drop oz (add (rest (λ a. above_none k (root X) a S (omega (arith, x_once)))))))
     ];
     y_in = omega (arith, occ-join b (root X) z key r X S, root-occ X);
     x_in = omega (arith, occ-join b z' z' key (suc r) X S, ind-same z');
-    y-lost = omega (
+    y_lost = omega (
       arith,
       lev_at-join b q (root X) z' key (suc r) X S,
       lvs-le q (suc r) (ind (root X) z'),
       occ-join b (root X) z' key (suc r) X S,
       once' (root X),
       root-occ X,
-      lev_at-root (suc r) X (omega (arith, x-once)),
+      lev_at-root (suc r) X (omega (arith, x_once)),
       lvs-not (suc r) (rank X) 1 far_x,
       lev_at-le (suc r) (root X) S,
     );
@@ -78,8 +78,8 @@ module _ (w : View) (q : ℕ) (b : Bool) (z z' key r : ℕ) (X S : Tree) (oz : O
     );
   }
     where
-      x-once : (occ (root X) X ≤ 1) × (occ (root X) S ≡ 0)
-      x-once = (omega (arith, once (root X), occ-join b (root X) z key r X S), omega (arith, once (root X), occ-join b (root X) z key r X S, root-occ X))
+      x_once : (occ (root X) X ≤ 1) × (occ (root X) S ≡ 0)
+      x_once = (omega (arith, once (root X), occ-join b (root X) z key r X S), omega (arith, once (root X), occ-join b (root X) z key r X S, root-occ X))
 
       far_x : lv (suc r) (rank X) ≡ true → ⊥
       far_x e = omega (arith, lv-eq (suc r) (rank X) e, lv-eq r (rank X) lx)
@@ -105,17 +105,17 @@ module _ (w : View) (q : ℕ) (b : Bool) (z x x' z' kx kz rz rx rx' rz' : ℕ) (
   rotate once ran o nz nw ny ns = record {
     paths = λ k. elim (side-or b k kx) [
       | inl n ↦ rw (route-near b k z kz rz (join b x kx rx W Y) S (near_near b k kx kz o n), route-near b k x kx rx W Y n, route-near b k x' kx rx' W (join b z' kz rz' Y S) n)
-          (patch (drop oz (drop ox (add (rest (λ a. above_none k x a W (omega (arith, x-once))))))))
+          (patch (drop oz (drop ox (add (rest (λ a. above_none k x a W (omega (arith, x_once))))))))
       | inr f ↦ (elim (side-or b k kz) [
         | inl n ↦ rw (route-near b k z kz rz (join b x kx rx W Y) S n, route-far b k x kx rx W Y f, route-far b k x' kx rx' W (join b z' kz rz' Y S) f, route-near b k z' kz rz' Y S n)
-            (patch (drop oz (drop ox (add (add (rest (λ a. above_none k x a Y (omega (arith, x-once)))))))))
+            (patch (drop oz (drop ox (add (add (rest (λ a. above_none k x a Y (omega (arith, x_once)))))))))
         | inr g ↦ rw (route-far b k z kz rz (join b x kx rx W Y) S g, route-far b k x' kx rx' W (join b z' kz rz' Y S) f, route-far b k z' kz rz' Y S g)
-            (patch (drop oz (add (add (rest (λ a. above_none k x a S (omega (arith, x-once))))))))
+            (patch (drop oz (add (add (rest (λ a. above_none k x a S (omega (arith, x_once))))))))
       ])
     ];
     y_in = omega (arith, occ-lean b x z x kx kz rz rx W Y S, ind-same x);
     x_in = omega (arith, occ-turn b x' x' z' kx kz rx' rz' W Y S, ind-same x');
-    y-lost = gone w q x after ran ox;
+    y_lost = gone w q x after ran ox;
     no-new = λ s d. omega (
       arith,
       lev-lean b q s z x kx kz rz rx W Y S,
@@ -129,8 +129,8 @@ module _ (w : View) (q : ℕ) (b : Bool) (z x x' z' kx kz rz rx rx' rz' : ℕ) (
     );
   }
     where
-      x-once : (occ x W ≡ 0) × (occ x Y ≡ 0) × (occ x S ≡ 0)
-      x-once = (omega (arith, once x, occ-lean b x z x kx kz rz rx W Y S, ind-same x), omega (arith, once x, occ-lean b x z x kx kz rz rx W Y S, ind-same x), omega (arith, once x, occ-lean b x z x kx kz rz rx W Y S, ind-same x))
+      x_once : (occ x W ≡ 0) × (occ x Y ≡ 0) × (occ x S ≡ 0)
+      x_once = (omega (arith, once x, occ-lean b x z x kx kz rz rx W Y S, ind-same x), omega (arith, once x, occ-lean b x z x kx kz rz rx W Y S, ind-same x), omega (arith, once x, occ-lean b x z x kx kz rz rx W Y S, ind-same x))
 
   pub rotate-from : lv rz rx ≡ true → 1 ≤ lev_at q x before
   rotate-from e = omega (arith, lev-lean b q x z x kx kz rz rx W Y S, lvs-yes rz rx (ind x x) e, ind-same x)
@@ -168,7 +168,7 @@ module _ (w : View) (q : ℕ) (b : Bool) (z x y y' x' z' kx ky kz rz rx ry : ℕ
           route-near b k y' ky (suc j) (join b x' kx j W A) (join b z' kz j B S) n,
           route-near b k x' kx j W A m,
         )
-            (patch (drop oz (drop ox (add (add (rest (λ a. above_none k x a W (omega (arith, x-once)))))))))
+            (patch (drop oz (drop ox (add (add (rest (λ a. above_none k x a W (omega (arith, x_once)))))))))
         | inr f ↦ rw (
           route-near b k z kz rz (join b x kx rx W (join b y ky ry A B)) S nz,
           route-far b k x kx rx W (join b y ky ry A B) f,
@@ -176,7 +176,7 @@ module _ (w : View) (q : ℕ) (b : Bool) (z x y y' x' z' kx ky kz rz rx ry : ℕ
           route-near b k y' ky (suc j) (join b x' kx j W A) (join b z' kz j B S) n,
           route-far b k x' kx j W A f,
         )
-            (patch (drop oz (drop ox (drop oy (add (add (rest (λ a. above_none k x a A (omega (arith, x-once))))))))))
+            (patch (drop oz (drop ox (drop oy (add (add (rest (λ a. above_none k x a A (omega (arith, x_once))))))))))
       ])
       | inr f ↦ (let fx = far_far b k kx ky oxy f in elim (side-or b k kz) [
         | inl m ↦ rw (
@@ -186,18 +186,18 @@ module _ (w : View) (q : ℕ) (b : Bool) (z x y y' x' z' kx ky kz rz rx ry : ℕ
           route-far b k y' ky (suc j) (join b x' kx j W A) (join b z' kz j B S) f,
           route-near b k z' kz j B S m,
         )
-            (patch (drop oz (drop ox (drop oy (add (add (rest (λ a. above_none k x a B (omega (arith, x-once))))))))))
+            (patch (drop oz (drop ox (drop oy (add (add (rest (λ a. above_none k x a B (omega (arith, x_once))))))))))
         | inr g ↦ rw (
           route-far b k z kz rz (join b x kx rx W (join b y ky ry A B)) S g,
           route-far b k y' ky (suc j) (join b x' kx j W A) (join b z' kz j B S) f,
           route-far b k z' kz j B S g,
         )
-            (patch (drop oz (add (add (rest (λ a. above_none k x a S (omega (arith, x-once))))))))
+            (patch (drop oz (add (add (rest (λ a. above_none k x a S (omega (arith, x_once))))))))
       ])
     ];
     y_in = omega (arith, occ-deep b x z x y kx ky kz rz rx ry W A B S, ind-same x);
     x_in = omega (arith, occ-flat b y' y' x' z' kx ky kz (suc j) j j W A B S, ind-same y');
-    y-lost = gone w q x level_out ran ox;
+    y_lost = gone w q x level_out ran ox;
     no-new = λ s d. omega (
       arith,
       lev-deep b q s z x y kx ky kz rz rx ry W A B S,
@@ -213,8 +213,8 @@ module _ (w : View) (q : ℕ) (b : Bool) (z x y y' x' z' kx ky kz rz rx ry : ℕ
     );
   }
     where
-      x-once : (occ x W ≡ 0) × (occ x A ≡ 0) × (occ x B ≡ 0) × (occ x S ≡ 0)
-      x-once = (omega (arith, once x, occ-deep b x z x y kx ky kz rz rx ry W A B S, ind-same x), omega (arith, once x, occ-deep b x z x y kx ky kz rz rx ry W A B S, ind-same x), omega (arith, once x, occ-deep b x z x y kx ky kz rz rx ry W A B S, ind-same x), omega (arith, once x, occ-deep b x z x y kx ky kz rz rx ry W A B S, ind-same x))
+      x_once : (occ x W ≡ 0) × (occ x A ≡ 0) × (occ x B ≡ 0) × (occ x S ≡ 0)
+      x_once = (omega (arith, once x, occ-deep b x z x y kx ky kz rz rx ry W A B S, ind-same x), omega (arith, once x, occ-deep b x z x y kx ky kz rz rx ry W A B S, ind-same x), omega (arith, once x, occ-deep b x z x y kx ky kz rz rx ry W A B S, ind-same x), omega (arith, once x, occ-deep b x z x y kx ky kz rz rx ry W A B S, ind-same x))
 
   pub double-from : lv rz rx ≡ true → 1 ≤ lev_at q x sunk
   double-from e = omega (arith, lev-deep b q x z x y kx ky kz rz rx ry W A B S, lvs-yes rz rx (ind x x) e, ind-same x)
@@ -242,7 +242,7 @@ module _ (w : View) (q : ℕ) (b : Bool) (p kp rp l kl pl rl s' : ℕ) (S : Tree
     ]);
     y_in = omega (arith, occ-join b (root S) p kp rp (leaf l kl pl rl) S, root-occ S);
     x_in = omega (arith, occ-renew s' S s', occ-root S s', ind-same s');
-    y-lost = gone w q (root S) (renew s' S) ran os;
+    y_lost = gone w q (root S) (renew s' S) ran os;
     no-new = λ a d. omega (arith, lev_at-join b q a p kp rp (leaf l kl pl rl) S, lev-renew q rp a s' S d);
   }
 
@@ -260,7 +260,7 @@ copy w q s' S os once ran = record {
   paths = λ k. renew-swap k s' S (renew-rest k s' S os (once (root S)));
   y_in = root-occ S;
   x_in = omega (arith, occ-renew s' S s', occ-root S s', ind-same s');
-  y-lost = gone w q (root S) (renew s' S) ran os;
+  y_lost = gone w q (root S) (renew s' S) ran os;
   no-new = λ a d. lev-renew q q a s' S d;
 }
 

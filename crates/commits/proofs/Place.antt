@@ -61,7 +61,7 @@ pub record Local (w : View) (q x y : ℕ) (old new : Tree) : Type 0 where
   pub paths : (k : ℕ) → Swap (Off w) x y (route k old) (route k new)
   pub y_in : 1 ≤ occ y old
   pub x_in : 1 ≤ occ x new
-  pub y-lost : lev_at q y new ≡ 0
+  pub y_lost : lev_at q y new ≡ 0
   pub no-new : (b : ℕ) → (b ≡ x → ⊥) → lev_at q b new ≤ lev_at q b old
 
 module _ {v w : View} {x y : ℕ} {old new : Tree} (c : Ctx) (i : Carries v (plug c old)) (i' : Carries w (plug c new)) where
@@ -74,7 +74,7 @@ module _ {v w : View} {x y : ℕ} {old new : Tree} (c : Ctx) (i : Carries v (plu
         fate = f;
         routes = λ k. swap_plug k c old new z (l.paths k);
         inside = omega (arith, occ-plug y c old, l.y_in, ind-other y 0 (λ e. omega (arith, subst (λ s. occ_c s c ≡ 0) e z, occ_c-entry c)));
-        lost = omega (arith, lev_at-plug y c new, lev_c-le y c, l.y-lost);
+        lost = omega (arith, lev_at-plug y c new, lev_c-le y c, l.y_lost);
         others = λ b d. omega (arith, lev_at-plug b c new, lev_at-plug b c old, l.no-new b d);
       }
 

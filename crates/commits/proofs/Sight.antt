@@ -116,8 +116,8 @@ record Leans (v : View) (t : Tree) (pz z x : ℕ) (d b : Bool) : Type 0 where
   under : parent c ≡ pz
   on : pside c ≡ d
   w_at : root W ≡ link b (v x)
-  y-at : root Y ≡ link (not b) (v x)
-  s-at : root S ≡ link (not b) (v z)
+  y_at : root Y ≡ link (not b) (v x)
+  s_at : root S ≡ link (not b) (v z)
   held : Holds v W × Holds v Y × Holds v S
 
 -- the rank of a tree that is held, by the slot at its top
@@ -140,7 +140,7 @@ leans v t i pz z d b one leads nz inz inx =
         let all = whole ∙ ap (λ r. plug c (join b z (v z).number (v z).rank r S)) deeper in
         let h = holds_join v b z (v z).number (v z).rank _ S (held_at v t c _ i all) in
         let g = holds_join v b _ _ _ W Y h.1 in
-        record { c = c; W = W; Y = Y; S = S; whole = all; under = under; on = on; w_at = wa; y-at = ya; s-at = sa; held = (g.1, g.2, h.2) }
+        record { c = c; W = W; Y = Y; S = S; whole = all; under = under; on = on; w_at = wa; y_at = ya; s_at = sa; held = (g.1, g.2, h.2) }
 
 -- the act at the place is the act of the whole
 turned : (v : View) (t t' : Tree) (pz z x x' z' w y s kx kz rz rx rx' rz' : ℕ) (d b : Bool) (c : Ctx) (W Y S : Tree)
@@ -164,17 +164,17 @@ module _ (v : View) (t : Tree) (i : Carries v t) (pz z x' z' j : ℕ) (d b : Boo
   pub rotate1-seen : suc j ≤ 28 → suc (v (link (not b) (v x))).rank ≤ j → suc (v (link (not b) (v z))).rank ≤ j → Changed v settles t pz (turning (v x).rank j)
   rotate1-seen lim hy hs =
       let p = spot in
-      turned v t _ pz z x x' z' _ _ _ (v x).number (v z).number (suc j) (v x).rank (v x).rank j d b p.c p.W p.Y p.S (p.whole ∙ ap (λ r. plug p.c (lean b z x (v x).number (v z).number r (v x).rank p.W p.Y p.S)) ez) p.under p.on p.w_at p.y-at p.s-at
+      turned v t _ pz z x x' z' _ _ _ (v x).number (v z).number (suc j) (v x).rank (v x).rank j d b p.c p.W p.Y p.S (p.whole ∙ ap (λ r. plug p.c (lean b z x (v x).number (v z).number r (v x).rank p.W p.Y p.S)) ez) p.under p.on p.w_at p.y_at p.s_at
       (rotates1 p.c b z x x' z' (v x).number (v z).number (v x).rank j p.W p.Y p.S fx fz up (subst (λ r. lv r (v x).rank ≡ true) ez lx)
-      (omega (arith, rank-at v p.Y _ p.held.1 p.y-at)) (omega (arith, rank-at v p.S _ p.held.2 p.s-at)) lim) (refl {a = parent p.c})
+      (omega (arith, rank-at v p.Y _ p.held.1 p.y_at)) (omega (arith, rank-at v p.S _ p.held.2 p.s_at)) lim) (refl {a = parent p.c})
 
   pub rotate2-seen : Shape t → Steady v pz z → suc (suc j) ≤ 28 → (v (link (not b) (v x))).rank ≡ j → (v (link b (v x))).rank ≡ j → suc (v (link (not b) (v z))).rank ≤ j → Changed v settles t pz (turning (suc (v x).rank) (suc j))
   rotate2-seen f st lim hy hw hs =
       let p = spot in
-      turned v t _ pz z x x' z' _ _ _ (v x).number (v z).number (suc j) (v x).rank (suc (v x).rank) (suc j) d b p.c p.W p.Y p.S (p.whole ∙ ap (λ r. plug p.c (lean b z x (v x).number (v z).number r (v x).rank p.W p.Y p.S)) ez) p.under p.on p.w_at p.y-at p.s-at
+      turned v t _ pz z x x' z' _ _ _ (v x).number (v z).number (suc j) (v x).rank (suc (v x).rank) (suc j) d b p.c p.W p.Y p.S (p.whole ∙ ap (λ r. plug p.c (lean b z x (v x).number (v z).number r (v x).rank p.W p.Y p.S)) ez) p.under p.on p.w_at p.y_at p.s_at
       (rotates2 p.c b z x x' z' (v x).number (v z).number (v x).rank j p.W p.Y p.S fx fz up (subst (λ r. lv r (v x).rank ≡ true) ez lx)
-      (sym (rank-at v p.Y _ p.held.1 p.y-at) ∙ hy) (sym (rank-at v p.W _ p.held.0 p.w_at) ∙ hw)
-      (omega (arith, rank-at v p.S _ p.held.2 p.s-at)) (above p.c _ p.S p.whole p.under) lim) (refl {a = parent p.c})
+      (sym (rank-at v p.Y _ p.held.1 p.y_at) ∙ hy) (sym (rank-at v p.W _ p.held.0 p.w_at) ∙ hw)
+      (omega (arith, rank-at v p.S _ p.held.2 p.s_at)) (above p.c _ p.S p.whole p.under) lim) (refl {a = parent p.c})
     where
       above : (c : Ctx) (X S : Tree) → t ≡ plug c (join b z (v z).number (v z).rank X S) → parent c ≡ pz → suc (suc j) ≤ rank_c c
       above c X S w e =
@@ -208,12 +208,12 @@ module _ (v : View) (t : Tree) (i : Carries v t) (pz z y' x' z' j : ℕ) (d b : 
       (fresh z' (side_rec b (v z).number j (link (not b) (v yy)) (link (not b) (v z))))))) (off z ∷ off xx ∷ off yy ∷ [])) (lead pz d y'))
   double-seen inx iny ez lx ey hw hs lim fy fx fz up =
       let p = leans v t i pz z d b one leads nz inz inx in
-      let q = split v p.Y b yy p.held.1 p.y-at iny in
+      let q = split v p.Y b yy p.held.1 p.y_at iny in
       let all = p.whole ∙ ap₂ (λ r Y. plug p.c (lean b z xx (v xx).number (v z).number r (v xx).rank p.W Y p.S)) ez q.whole in
       flattened v t _ pz z xx yy y' x' z' _ _ _ _ (v xx).number (v yy).number (v z).number (suc j) (v xx).rank (v yy).rank j d b p.c p.W q.L q.R p.S
-      all p.under p.on p.w_at q.near q.far p.s-at
+      all p.under p.on p.w_at q.near q.far p.s_at
       (doubles p.c b z xx yy y' x' z' (v xx).number (v yy).number (v z).number (v xx).rank (v yy).rank j p.W q.L q.R p.S fy fx fz up (subst (λ r. lv r (v xx).rank ≡ true) ez lx) ey
-      (omega (arith, rank-at v p.W _ p.held.0 p.w_at)) (omega (arith, rank-at v p.S _ p.held.2 p.s-at)) lim) (refl {a = parent p.c})
+      (omega (arith, rank-at v p.W _ p.held.0 p.w_at)) (omega (arith, rank-at v p.S _ p.held.2 p.s_at)) lim) (refl {a = parent p.c})
 
 -- ---- take-out: the record on side b of p is a leaf
 

@@ -125,10 +125,10 @@ module _ {p : Point} (r : Rich p) where
   unfolding figures_reached count_open
   low = record {
     answers = ap (λ (y : Report). y.answer) figures-reached;
-    m-figure = ap (λ (y : Report). y.figures.m) figures-reached ∙ s.m-is;
-    c-figure = ap (λ (y : Report). y.figures.c) figures-reached ∙ c_is s;
-    m-state = s.m-is;
-    c-state = c_is s;
+    m_figure = ap (λ (y : Report). y.figures.m) figures-reached ∙ s.m-is;
+    c_figure = ap (λ (y : Report). y.figures.c) figures-reached ∙ c_is s;
+    m_state = s.m-is;
+    c_state = c_is s;
     bound = bounded;
   }
 

@@ -162,7 +162,7 @@ module _ (t : List ℕ) (st : State) (cs : List Ask) (n : ℕ) (e : length t ≡
       let f : (figures_at real here).level ≡ levels (view (slots here.table) here.table 0) (read s.tree) = ap (λ (y : Report). y.figures.level) (figures-reached the_rich) in
       let v0 : (view (slots here.table) here.table 0).rank ≡ 255 = ap (λ k. (view k here.table 0).rank) (slots-is s) ∙ ap (λ r. r.rank) s.carries.entry in
       let l : levels (view (slots here.table) here.table 0) (read s.tree) ≡ lev 255 s.tree = levels-is _ s.tree s.shape.marks ∙ ap (λ q. lev q s.tree) v0 in
-      omega (arith, f, l, levels-few the_rich, (low the_rich).c-figure)
+      omega (arith, f, l, levels-few the_rich, (low the_rich).c_figure)
 
   module _ (held : given here.account.commits ≡ [] → ⊥) where
     -- "so the root's rank is at most the allowed rank that figures prints"

@@ -45,7 +45,7 @@ lowly M p =
 low-lowly : (M : Machine) (p : Point) → Low M p → lowly M p ≡ true
 unfolding lowly
 low-lowly M p k =
-    rw (k.answers, k.m-figure, k.c-figure, eq-eqb (m_at p) (m_at p) refl, eq-eqb (c_at p) (c_at p) refl) (go (given p.account.commits) refl)
+    rw (k.answers, k.m_figure, k.c_figure, eq-eqb (m_at p) (m_at p) refl, eq-eqb (c_at p) (c_at p) refl) (go (given p.account.commits) refl)
   where
     either : (a b : Bool) → (a ≡ true) ⊎ (b ≡ true) → (a || b) ≡ true
     either true b h = refl

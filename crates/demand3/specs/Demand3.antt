@@ -25,11 +25,11 @@ figures_at M p = (M.figures p.table p.state).figures
 pub record Low (M : Machine) (p : Point) : Type 0 where
   -- figures answers 0, and hands back this m and c
   pub answers : (M.figures p.table p.state).answer ≡ Accepted
-  pub m-figure : (figures_at M p).m ≡ m_at p
-  pub c-figure : (figures_at M p).c ≡ c_at p
+  pub m_figure : (figures_at M p).m ≡ m_at p
+  pub c_figure : (figures_at M p).c ≡ c_at p
   -- they are the state's m, and u plus the tasks now settling
-  pub m-state : p.state.m ≡ m_at p
-  pub c-state : p.state.u + settling p.state.tasks 8 ≡ c_at p
+  pub m_state : p.state.m ≡ m_at p
+  pub c_state : p.state.u + settling p.state.tasks 8 ≡ c_at p
   -- the bound
   pub bound : (given p.account.commits ≡ [] → ⊥) → ((figures_at M p).height ≤ c_at p) ⊎ (fib (((figures_at M p).height - c_at p) + 3) ≤ 2 * m_at p)
 

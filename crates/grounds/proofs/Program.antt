@@ -14,7 +14,7 @@ use Rattle.machine.specs.Answers.{number_of}
 use Rattle.machine.specs.Step.{Left, step_of}
 use Rattle.machine.specs.CallFile.{two, four, no_job, begins, steps, abandons, tidies, operation_of, by_operation, decode, run_of, serve}
 use Rattle.machine.proofs.Choice.{if_elim}
-use Rattle.grounds.specs.Program.{operation_in, task_in, count_in, number_in, price_in, BadRecord, a-short-last-record, no-such-operation, no-count-to-step, an-unused-count, an-unused-number, an-unused-price, an-unused-task}
+use Rattle.grounds.specs.Program.{operation_in, task_in, count_in, number_in, price_in, BadRecord, a_short_last_record, no_such_operation, no_count_to_step, an_unused_count, an_unused_number, an_unused_price, an_unused_task}
 use Rattle.grounds.proofs.Says.{Says, true_if, says_both, Denies, denies, denies-not, denies-both, says_eq, says_lt, says_le}
 use Rattle.grounds.proofs.Each.{begin-never, step-never, abandon-never, tidy-never}
 
@@ -44,20 +44,20 @@ module _ (b : List ℕ) where
     -- operations 1 to 3
     module _ (low : 1 ≤ operation_in b) (high : operation_in b ≤ 3) where
       fine-3 : count_in b ≡ 0 → ¬ (BadRecord b)
-      fine-3 z (a-short-last-record h) = long h
-      fine-3 z (no-such-operation (inl h)) = omega arith
-      fine-3 z (no-such-operation (inr h)) = omega arith
-      fine-3 z (no-count-to-step h k) = omega arith
-      fine-3 z (an-unused-count h k) = k z
-      fine-3 z (an-unused-number h k) = omega arith
-      fine-3 z (an-unused-price h k) = omega arith
-      fine-3 z (an-unused-task h k) = omega arith
+      fine-3 z (a_short_last_record h) = long h
+      fine-3 z (no_such_operation (inl h)) = omega arith
+      fine-3 z (no_such_operation (inr h)) = omega arith
+      fine-3 z (no_count_to_step h k) = omega arith
+      fine-3 z (an_unused_count h k) = k z
+      fine-3 z (an_unused_number h k) = omega arith
+      fine-3 z (an_unused_price h k) = omega arith
+      fine-3 z (an_unused_task h k) = omega arith
 
       read-begins : Read (begins b (operation_of (operation_in b)))
       unfolding begins two
       read-begins =
           if_elim Read _ (λ e. good (fine-3 ((says_eq (count_in b) 0).holds e)))
-          (λ e. bad (an-unused-count (λ q. omega arith) ((says_eq (count_in b) 0).fails e)))
+          (λ e. bad (an_unused_count (λ q. omega arith) ((says_eq (count_in b) 0).fails e)))
 
     -- operation 4
     module _ (is-4 : operation_in b ≡ 4) where
@@ -65,19 +65,19 @@ module _ (b : List ℕ) where
       Steps4 = (count_in b ≡ 0) ⊎ ((number_in b ≢ 0) ⊎ (price_in b ≢ 0))
 
       fine-4 : ¬ Steps4 → ¬ (BadRecord b)
-      fine-4 z (a-short-last-record h) = long h
-      fine-4 z (no-such-operation (inl h)) = omega arith
-      fine-4 z (no-such-operation (inr h)) = omega arith
-      fine-4 z (no-count-to-step h k) = z (inl k)
-      fine-4 z (an-unused-count h k) = h is-4
-      fine-4 z (an-unused-number h k) = z (inr (inl k))
-      fine-4 z (an-unused-price h k) = z (inr (inr k))
-      fine-4 z (an-unused-task h k) = omega arith
+      fine-4 z (a_short_last_record h) = long h
+      fine-4 z (no_such_operation (inl h)) = omega arith
+      fine-4 z (no_such_operation (inr h)) = omega arith
+      fine-4 z (no_count_to_step h k) = z (inl k)
+      fine-4 z (an_unused_count h k) = h is-4
+      fine-4 z (an_unused_number h k) = z (inr (inl k))
+      fine-4 z (an_unused_price h k) = z (inr (inr k))
+      fine-4 z (an_unused_task h k) = omega arith
 
       bad-4 : Steps4 → BadRecord b
-      bad-4 (inl z) = no-count-to-step is-4 z
-      bad-4 (inr (inl z)) = an-unused-number (omega arith) z
-      bad-4 (inr (inr z)) = an-unused-price (omega arith) z
+      bad-4 (inl z) = no_count_to_step is-4 z
+      bad-4 (inr (inl z)) = an_unused_number (omega arith) z
+      bad-4 (inr (inr z)) = an_unused_price (omega arith) z
 
       denies-4 : Denies (not (eqb (count_in b) 0) && no_job b) Steps4
       denies-4 = denies-both _ _ (denies _ (says_eq (count_in b) 0)) denies-job
@@ -92,19 +92,19 @@ module _ (b : List ℕ) where
       Abandon5 = (count_in b ≢ 0) ⊎ ((number_in b ≢ 0) ⊎ (price_in b ≢ 0))
 
       fine-5 : ¬ Abandon5 → ¬ (BadRecord b)
-      fine-5 z (a-short-last-record h) = long h
-      fine-5 z (no-such-operation (inl h)) = omega arith
-      fine-5 z (no-such-operation (inr h)) = omega arith
-      fine-5 z (no-count-to-step h k) = omega arith
-      fine-5 z (an-unused-count h k) = z (inl k)
-      fine-5 z (an-unused-number h k) = z (inr (inl k))
-      fine-5 z (an-unused-price h k) = z (inr (inr k))
-      fine-5 z (an-unused-task h k) = omega arith
+      fine-5 z (a_short_last_record h) = long h
+      fine-5 z (no_such_operation (inl h)) = omega arith
+      fine-5 z (no_such_operation (inr h)) = omega arith
+      fine-5 z (no_count_to_step h k) = omega arith
+      fine-5 z (an_unused_count h k) = z (inl k)
+      fine-5 z (an_unused_number h k) = z (inr (inl k))
+      fine-5 z (an_unused_price h k) = z (inr (inr k))
+      fine-5 z (an_unused_task h k) = omega arith
 
       bad-5 : Abandon5 → BadRecord b
-      bad-5 (inl z) = an-unused-count (λ q. omega arith) z
-      bad-5 (inr (inl z)) = an-unused-number (omega arith) z
-      bad-5 (inr (inr z)) = an-unused-price (omega arith) z
+      bad-5 (inl z) = an_unused_count (λ q. omega arith) z
+      bad-5 (inr (inl z)) = an_unused_number (omega arith) z
+      bad-5 (inr (inr z)) = an_unused_price (omega arith) z
 
       denies-5 : Denies (eqb (count_in b) 0 && no_job b) Abandon5
       denies-5 = denies-both _ _ (denies-not _ (says_eq (count_in b) 0)) denies-job
@@ -119,20 +119,20 @@ module _ (b : List ℕ) where
       Tidy6 = (task_in b ≢ 0) ⊎ ((count_in b ≢ 0) ⊎ ((number_in b ≢ 0) ⊎ (price_in b ≢ 0)))
 
       fine-6 : ¬ Tidy6 → ¬ (BadRecord b)
-      fine-6 z (a-short-last-record h) = long h
-      fine-6 z (no-such-operation (inl h)) = omega arith
-      fine-6 z (no-such-operation (inr h)) = omega arith
-      fine-6 z (no-count-to-step h k) = omega arith
-      fine-6 z (an-unused-count h k) = z (inr (inl k))
-      fine-6 z (an-unused-number h k) = z (inr (inr (inl k)))
-      fine-6 z (an-unused-price h k) = z (inr (inr (inr k)))
-      fine-6 z (an-unused-task h k) = z (inl k)
+      fine-6 z (a_short_last_record h) = long h
+      fine-6 z (no_such_operation (inl h)) = omega arith
+      fine-6 z (no_such_operation (inr h)) = omega arith
+      fine-6 z (no_count_to_step h k) = omega arith
+      fine-6 z (an_unused_count h k) = z (inr (inl k))
+      fine-6 z (an_unused_number h k) = z (inr (inr (inl k)))
+      fine-6 z (an_unused_price h k) = z (inr (inr (inr k)))
+      fine-6 z (an_unused_task h k) = z (inl k)
 
       bad-6 : Tidy6 → BadRecord b
-      bad-6 (inl z) = an-unused-task is-6 z
-      bad-6 (inr (inl z)) = an-unused-count (λ q. omega arith) z
-      bad-6 (inr (inr (inl z))) = an-unused-number (omega arith) z
-      bad-6 (inr (inr (inr z))) = an-unused-price (omega arith) z
+      bad-6 (inl z) = an_unused_task is-6 z
+      bad-6 (inr (inl z)) = an_unused_count (λ q. omega arith) z
+      bad-6 (inr (inr (inl z))) = an_unused_number (omega arith) z
+      bad-6 (inr (inr (inr z))) = an_unused_price (omega arith) z
 
       denies-6 : Denies (eqb (task_in b) 0 && (eqb (count_in b) 0 && no_job b)) Tidy6
       denies-6 = denies-both _ _ (denies-not _ (says_eq (task_in b) 0)) (denies-both _ _ (denies-not _ (says_eq (count_in b) 0)) denies-job)
@@ -167,12 +167,12 @@ module _ (b : List ℕ) where
         if_elim Read _ (λ h. read-tidies ((says_eq (operation_in b) 6).holds h))
         (λ h.
         bad
-        (no-such-operation
+        (no_such_operation
         (no_other (says_low.fails e) ((says_eq (operation_in b) 4).fails f) ((says_eq (operation_in b) 5).fails g) ((says_eq (operation_in b) 6).fails h)))))))
 
   read-decode : Read (decode b)
   unfolding decode
-  read-decode = if_elim Read _ (λ e. bad (a-short-last-record ((says_lt (length b) 12).holds e))) (λ e. read-operation ((says_lt (length b) 12).fails e))
+  read-decode = if_elim Read _ (λ e. bad (a_short_last_record ((says_lt (length b) 12).holds e))) (λ e. read-operation ((says_lt (length b) 12).fails e))
 
 -- no call gives 19
 abbrev number_left : Left → ℕ

@@ -14,8 +14,8 @@ use Rattle.machine.specs.Table.{view}
 use Rattle.machine.specs.PutIn.{put_grounds, put_test, put_turn, put_room, put_limit, put_commit, read_put_parent, read_put_leaf, put_step}
 use Rattle.grounds.specs.Record.{NoLinks, LeadTo, Unreadable, ChildUnreadable}
 use Rattle.grounds.specs.Room.{Room}
-use Rattle.grounds.specs.Commits.{of-a-put-in, at-the-commit-of-a-put-in, PutTest, one-and-the-same, parent-doesnt-lead-on, not-on-a-leaf-of-another-number, AtLimit, WithoutRoom, TooFewSlots}
-use Rattle.grounds.specs.Step.{PhaseDamaged, record-unreadable, arrival-outranks, before-the-test, after-the-test}
+use Rattle.grounds.specs.Commits.{of_a_put_in, at_the_commit_of_a_put_in, PutTest, one_and_the_same, parent_doesnt_lead_on, not_on_a_leaf_of_another_number, AtLimit, WithoutRoom, TooFewSlots}
+use Rattle.grounds.specs.Step.{PhaseDamaged, record_unreadable, arrival-outranks, before_the_test, after_the_test}
 use Rattle.grounds.proofs.Says.{Says, says_not, says_both, Denies, denies, denies-not, denies-both, says_eq, says_le}
 use Rattle.grounds.proofs.Falls.{Falls, serves, passes, if_falls, look}
 use Rattle.grounds.proofs.Records.{says_leaf, says_still, says_leads, denies-unreadable, denies-child}
@@ -53,23 +53,23 @@ module _ (n : ℕ) (t : List ℕ) (j : Job) (q : Path) where
       (if_falls (λ z. Falls plain_answers (number_turn z) []) _ (λ x. serves (inl refl)) (λ x. serves (inr (inr (inr (inl refl)))))))))
 
   to-damaged : (a b : Links) → Before a → PhaseDamaged (view n t) n j (PuttingIn q (PutCommit a b))
-  to-damaged a b (inl x) = record-unreadable (inl x)
-  to-damaged a b (inr (inl x)) = record-unreadable (inr x)
-  to-damaged a b (inr (inr (inl x))) = before-the-test (of-a-put-in (one-and-the-same (inl (inl x))))
-  to-damaged a b (inr (inr (inr (inl x)))) = before-the-test (of-a-put-in (parent-doesnt-lead-on x))
-  to-damaged a b (inr (inr (inr (inr x)))) = before-the-test (of-a-put-in (not-on-a-leaf-of-another-number x))
+  to-damaged a b (inl x) = record_unreadable (inl x)
+  to-damaged a b (inr (inl x)) = record_unreadable (inr x)
+  to-damaged a b (inr (inr (inl x))) = before_the_test (of_a_put_in (one_and_the_same (inl (inl x))))
+  to-damaged a b (inr (inr (inr (inl x)))) = before_the_test (of_a_put_in (parent_doesnt_lead_on x))
+  to-damaged a b (inr (inr (inr (inr x)))) = before_the_test (of_a_put_in (not_on_a_leaf_of_another_number x))
 
   from-damaged : (a b : Links) → PhaseDamaged (view n t) n j (PuttingIn q (PutCommit a b)) → Before a
-  from-damaged a b (record-unreadable (inl x)) = inl x
-  from-damaged a b (record-unreadable (inr x)) = inr (inl x)
+  from-damaged a b (record_unreadable (inl x)) = inl x
+  from-damaged a b (record_unreadable (inr x)) = inr (inl x)
   from-damaged a b (arrival-outranks x) = elim x [ ]
-  from-damaged a b (before-the-test (of-a-put-in (one-and-the-same (inl (inl x))))) = inr (inr (inl x))
-  from-damaged a b (before-the-test (of-a-put-in (one-and-the-same (inl (inr x))))) = absurd x
-  from-damaged a b (before-the-test (of-a-put-in (one-and-the-same (inr (inl x))))) = absurd x
-  from-damaged a b (before-the-test (of-a-put-in (one-and-the-same (inr (inr x))))) = absurd x
-  from-damaged a b (before-the-test (of-a-put-in (parent-doesnt-lead-on x))) = inr (inr (inr (inl x)))
-  from-damaged a b (before-the-test (of-a-put-in (not-on-a-leaf-of-another-number x))) = inr (inr (inr (inr x)))
-  from-damaged a b (after-the-test x) = elim x [ ]
+  from-damaged a b (before_the_test (of_a_put_in (one_and_the_same (inl (inl x))))) = inr (inr (inl x))
+  from-damaged a b (before_the_test (of_a_put_in (one_and_the_same (inl (inr x))))) = absurd x
+  from-damaged a b (before_the_test (of_a_put_in (one_and_the_same (inr (inl x))))) = absurd x
+  from-damaged a b (before_the_test (of_a_put_in (one_and_the_same (inr (inr x))))) = absurd x
+  from-damaged a b (before_the_test (of_a_put_in (parent_doesnt_lead_on x))) = inr (inr (inr (inl x)))
+  from-damaged a b (before_the_test (of_a_put_in (not_on_a_leaf_of_another_number x))) = inr (inr (inr (inr x)))
+  from-damaged a b (after_the_test x) = elim x [ ]
 
   commit-fours :
       (m : ℕ) (a b : Links)
@@ -79,8 +79,8 @@ module _ (n : ℕ) (t : List ℕ) (j : Job) (q : Path) where
   unfolding put_commit
   commit-fours m a b =
       fours_as (λ h. elim h [ inl x ↦ to-damaged a b x | inr x ↦ absurd x.1 ], λ h. inl (from-damaged a b h))
-      (λ h. at-the-commit-of-a-put-in h.0 h.1, λ h. elim h [ at-the-commit-of-a-put-in x y ↦ (x, y) ])
-      (λ h. at-the-commit-of-a-put-in h.0 h.1, λ h. elim h [ at-the-commit-of-a-put-in x y ↦ (x, y) ])
+      (λ h. at_the_commit_of_a_put_in h.0 h.1, λ h. elim h [ at_the_commit_of_a_put_in x y ↦ (x, y) ])
+      (λ h. at_the_commit_of_a_put_in h.0 h.1, λ h. elim h [ at_the_commit_of_a_put_in x y ↦ (x, y) ])
       (λ h. absurd h.1, λ h. elim h [ ])
       (commit-falls _ _ _ _ (denies-before a) (says_test a b) (λ x y. change-falls m _))
 
@@ -93,12 +93,12 @@ module _ (n : ℕ) (t : List ℕ) (j : Job) (q : Path) where
   unfolding put_step read_put_parent read_put_leaf
   put-fours m PutParent =
       only_hurts (λ x. elim x [ ]) (λ x. elim x [ ]) (λ x. elim x [ ])
-      (falls-as record-unreadable
-      (λ h. elim h [ record-unreadable x ↦ x | arrival-outranks x ↦ elim x [ ] | before-the-test x ↦ elim x [ ] | after-the-test x ↦ elim x [ ] ])
+      (falls-as record_unreadable
+      (λ h. elim h [ record_unreadable x ↦ x | arrival-outranks x ↦ elim x [ ] | before_the_test x ↦ elim x [ ] | after_the_test x ↦ elim x [ ] ])
       (read-hurts _ _ _ _ (denies-unreadable n t q.parent)))
   put-fours m (PutLeaf a) =
       only_hurts (λ x. elim x [ ]) (λ x. elim x [ ]) (λ x. elim x [ ])
-      (falls-as record-unreadable
-      (λ h. elim h [ record-unreadable x ↦ x | arrival-outranks x ↦ elim x [ ] | before-the-test x ↦ elim x [ ] | after-the-test x ↦ elim x [ ] ])
+      (falls-as record_unreadable
+      (λ h. elim h [ record_unreadable x ↦ x | arrival-outranks x ↦ elim x [ ] | before_the_test x ↦ elim x [ ] | after_the_test x ↦ elim x [ ] ])
       (read-hurts _ _ _ _ (denies-child n t q.here)))
   put-fours m (PutCommit a b) = commit-fours m a b

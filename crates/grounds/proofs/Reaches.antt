@@ -15,7 +15,7 @@ use Rattle.machine.proofs.Marks.{unmarked, unmarked-set, unmarked-all}
 use Rattle.machine.proofs.Reach.{reach-hurt, reach-leaf, reach-inner}
 use Rattle.grounds.specs.Order.{Among}
 use Rattle.grounds.specs.Record.{WellFormed}
-use Rattle.grounds.specs.Ways.{Way, link_on, Goes, ReachDamaged, not-well-formed, in-state-2, reached-twice, Fare, Fares}
+use Rattle.grounds.specs.Ways.{Way, link_on, Goes, ReachDamaged, not_well_formed, in_state_2, reached-twice, Fare, Fares}
 use Rattle.grounds.proofs.Says.{Denies, denies-not, denies-both, says_struck, unless, says_both, says_eq}
 use Rattle.grounds.proofs.Records.{says_in_tree, says_formed, says_linked}
 use Rattle.grounds.proofs.Lists.{no_longer}
@@ -149,8 +149,8 @@ module _ (n : ℕ) (t : List ℕ) where
   not_in_tree s cur g z = go (well_formed n s (view n t s)) refl
     where
       go : (b : Bool) → well_formed n s (view n t s) ≡ b → ReachDamaged (view n t) n
-      go true q = elim ((says_formed (view n t s) n s).holds q).state-1-or-2 [ inl a ↦ absurd (z a) | inr a ↦ in-state-2 cur s g a ]
-      go false q = not-well-formed cur s g ((says_formed (view n t s) n s).fails q)
+      go true q = elim ((says_formed (view n t s) n s).holds q).state_1_or_2 [ inl a ↦ absurd (z a) | inr a ↦ in_state_2 cur s g a ]
+      go false q = not_well_formed cur s g ((says_formed (view n t s) n s).fails q)
 
   -- a slot that may not be reached
   lost-here :
@@ -159,7 +159,7 @@ module _ (n : ℕ) (t : List ℕ) where
   unfolding reachable
   lost-here marks s cur g nz known e =
       elim ((denies-both _ _ (denies-not _ (says_linked (view n t s) n s)) (denies-both _ _ (denies-not _ (says_in_tree (view n t s))) (denies-not _ (says_eq (get_or marks s 0) 0)))).struck e) [
-        | inl x ↦ not-well-formed cur s g (λ h. x (nz, h))
+        | inl x ↦ not_well_formed cur s g (λ h. x (nz, h))
         | inr x ↦
             elim x [
               | inl z ↦ not_in_tree s cur g z
@@ -238,13 +238,13 @@ module _ (n : ℕ) (t : List ℕ) where
   start-known x h =
       elim (mark_made (replicate n 0) 0 x h) [
         | inl e ↦ ([], sym e, tt)
-        | inr k ↦ absurd (k (all-bare n x))
+        | inr k ↦ absurd (k (all_bare n x))
       ]
     where
-      all-bare : (k x : ℕ) → get_or {A = ℕ} (replicate k 0) x 0 ≡ 0
-      all-bare zero x = refl
-      all-bare (suc k) zero = refl
-      all-bare (suc k) (suc x) = all-bare k x
+      all_bare : (k x : ℕ) → get_or {A = ℕ} (replicate k 0) x 0 ≡ 0
+      all_bare zero x = refl
+      all_bare (suc k) zero = refl
+      all_bare (suc k) (suc x) = all_bare k x
 
   -- damage of the entry itself
   entry-denies : Denies (well_formed n 0 (view n t 0) && in_tree (view n t 0)) ((¬ (WellFormed n 0 (view n t 0))) ⊎ (¬ ((view n t 0).state ≡ 1)))
@@ -254,7 +254,7 @@ module _ (n : ℕ) (t : List ℕ) where
     entry : ((view n t 0).left ≢ 0) × ((view n t 0).left < n) × ((view n t 0).right ≡ 0)
     entry =
         elim formed.shape [
-          | inl h ↦ (h.1.a-left-link.0, h.1.a-left-link.1, h.1.no-right-one)
+          | inl h ↦ (h.1.a_left_link.0, h.1.a_left_link.1, h.1.no_right_one)
           | inr h ↦ absurd (h.0 refl)
         ]
 
@@ -298,8 +298,8 @@ module _ (n : ℕ) (t : List ℕ) where
       all_once (true ∷ w) (false ∷ u) x g k = absurd (k.0 entry.2)
 
       none-damaged : ¬ (ReachDamaged (view n t) n)
-      none-damaged (not-well-formed w s g h) = h (all_sound w s g).0
-      none-damaged (in-state-2 w s g h) = let e = (all_sound w s g).1 in omega arith
+      none-damaged (not_well_formed w s g h) = h (all_sound w s g).0
+      none-damaged (in_state_2 w s g h) = let e = (all_sound w s g).1 in omega arith
       none-damaged (reached-twice w u s d g k) = d (all_once w u s g k)
 
       entry-no_fare : Fare (view n t 0) → ⊥
@@ -313,7 +313,7 @@ module _ (n : ℕ) (t : List ℕ) where
       all_fares : Fares (view n t) (fare_slots tr)
       all_fares =
           record {
-            each-is-one = λ x h. let f = sp.fare-in x h in (true ∷ f.0, (entry.0, f.1), f.2);
+            each_is_one = λ x h. let f = sp.fare-in x h in (true ∷ f.0, (entry.0, f.1), f.2);
             each_is_there = fare-there;
             none-twice = sp.fare-once;
           }
@@ -324,7 +324,7 @@ module _ (n : ℕ) (t : List ℕ) where
   Verdict (reached tr m) = (¬ (ReachDamaged (view n t) n)) × Fares (view n t) (fare_slots tr)
 
   entry-hurt : (¬ (WellFormed n 0 (view n t 0))) ⊎ (¬ ((view n t 0).state ≡ 1)) → ReachDamaged (view n t) n
-  entry-hurt (inl h) = not-well-formed [] 0 refl h
+  entry-hurt (inl h) = not_well_formed [] 0 refl h
   entry-hurt (inr h) = not_in_tree 0 [] refl h
 
   pub verdict : Verdict (reach n (view n t))
@@ -343,4 +343,4 @@ module _ (n : ℕ) (t : List ℕ) where
 -- two lists of all fares are equally long
 pub fares-length : (v : View) (fs gs : List ℕ) → Fares v fs → Fares v gs → length fs ≤ length gs
 fares-length v fs gs f g =
-    no_longer fs gs f.none-twice (λ a h. let w = f.each-is-one a h in g.each_is_there w.0 a w.1 w.2)
+    no_longer fs gs f.none-twice (λ a h. let w = f.each_is_one a h in g.each_is_there w.0 a w.1 w.2)

@@ -9,7 +9,7 @@ use Rattle.terms.specs.declared.Links.{Links}
 use Rattle.machine.specs.Record.{top_number, in_tree, sentinel, number_fits, price_fits, fare_marks, inner_marks, is_link, is_leaf, is_inner, plain_form, entry_form, well_formed, linked, level, leads, still}
 use Rattle.machine.specs.Table.{view}
 use Rattle.machine.proofs.Tests.{formed-in}
-use Rattle.grounds.specs.Record.{FareNumber, Price, Link, NoLinks, Leaf, Inner, Entry, WellFormed, Sentinel, Level, LeadTo, AsNoted, Unreadable, outside-the-table, not-well-formed, ChildUnreadable, missing, there-but}
+use Rattle.grounds.specs.Record.{FareNumber, Price, Link, NoLinks, Leaf, Inner, Entry, WellFormed, Sentinel, Level, LeadTo, AsNoted, Unreadable, outside_the_table, not_well_formed, ChildUnreadable, missing, there-but}
 use Rattle.grounds.proofs.Says.{Says, says_not, says_as, says_both, says_either, Denies, denies, denies-as, denies-both, says_eq, says_lt, says_le}
 
 pub says_number : (k : ℕ) → Says (number_fits k) (FareNumber k)
@@ -51,8 +51,8 @@ module _ (r : Rec) where
   unfolding still
   says_still l =
       says_as _ (says_both _ _ says_in_tree (says_both _ _ (says_eq r.left l.left) (says_eq r.right l.right)))
-      (λ h. record { state-1 = h.0; left-as-noted = h.1.0; right-as-noted = h.1.1 })
-      (λ h. (h.state-1, (h.left-as-noted, h.right-as-noted)))
+      (λ h. record { state-1 = h.0; left_as_noted = h.1.0; right_as_noted = h.1.1 })
+      (λ h. (h.state-1, (h.left_as_noted, h.right_as_noted)))
 
   abbrev FareMarks : Type 0
   FareMarks = FareNumber r.number × (Price r.price × (r.rank ≡ 0))
@@ -107,22 +107,22 @@ module _ (r : Rec) where
       marked : Marks → (r.state ≡ 1) ⊎ (r.state ≡ 2) → ((s ≡ 0) × Entry n r) ⊎ ((s ≢ 0) × (Leaf r ⊎ Inner n r)) → WellFormed n s r
       marked m a h =
           record {
-            state-1-or-2 = a;
-            number-as-above = inr m.0;
-            price-as-above = let e = m.1.1 in omega arith;
+            state_1_or_2 = a;
+            number_as_above = inr m.0;
+            price_as_above = let e = m.1.1 in omega arith;
             sentinel-price = λ e. m.1.1;
-            together-or-not-at-all = (λ e. m.1.0, λ e. m.0);
+            together_or_not_at_all = (λ e. m.1.0, λ e. m.0);
             shape = h;
           }
 
       plain : FareNumber r.number → Price r.price → r.rank ≤ 28 → (r.state ≡ 1) ⊎ (r.state ≡ 2) → ((s ≡ 0) × Entry n r) ⊎ ((s ≢ 0) × (Leaf r ⊎ Inner n r)) → WellFormed n s r
       plain k p g a h =
           record {
-            state-1-or-2 = a;
-            number-as-above = inl k;
-            price-as-above = p;
+            state_1_or_2 = a;
+            number_as_above = inl k;
+            price_as_above = p;
             sentinel-price = λ e. absurd (omega arith);
-            together-or-not-at-all = (λ e. absurd (omega arith), λ e. absurd (omega arith));
+            together_or_not_at_all = (λ e. absurd (omega arith), λ e. absurd (omega arith));
             shape = h;
           }
 
@@ -142,18 +142,18 @@ module _ (r : Rec) where
       formed : Tested → WellFormed n s r
       formed (a, inl h) =
           marked h.1.0 a
-          (inl (h.0, record { a-left-link = h.1.1.0; no-right-one = h.1.1.1; sentinel-number = h.1.0.0; sentinel-rank = h.1.0.1.0 }))
+          (inl (h.0, record { a_left_link = h.1.1.0; no_right_one = h.1.1.1; sentinel-number = h.1.0.0; sentinel-rank = h.1.0.1.0 }))
       formed (a, inr (z, inl h)) = leaf_formed h a z
       formed (a, inr (z, inr h)) = inner-formed h a z
 
       marks_of_lem : WellFormed n s r → r.rank ≡ 255 → Marks
-      marks_of_lem w e = let k = w.together-or-not-at-all.1 e in (k, (e, w.sentinel-price k))
+      marks_of_lem w e = let k = w.together_or_not_at_all.1 e in (k, (e, w.sentinel-price k))
 
       number_of : WellFormed n s r → r.rank ≢ 255 → FareNumber r.number
-      number_of w d = elim w.number-as-above [ inl k ↦ k | inr k ↦ absurd (d (w.together-or-not-at-all.0 k)) ]
+      number_of w d = elim w.number_as_above [ inl k ↦ k | inr k ↦ absurd (d (w.together_or_not_at_all.0 k)) ]
 
       plain_of : WellFormed n s r → Leaf r ⊎ Inner n r → Plain
-      plain_of w (inl (l, inl e)) = inl (l, inr (number_of w (λ f. omega arith), (w.price-as-above, e)))
+      plain_of w (inl (l, inl e)) = inl (l, inr (number_of w (λ f. omega arith), (w.price_as_above, e)))
       plain_of w (inl (l, inr e)) = inl (l, inl (marks_of_lem w e))
       plain_of w (inr i) =
           inr (
@@ -166,9 +166,9 @@ module _ (r : Rec) where
 
       tested : WellFormed n s r → Tested
       tested w = (
-        w.state-1-or-2,
+        w.state_1_or_2,
         elim w.shape [
-          | inl h ↦ inl (h.0, (marks_of_lem w h.1.sentinel-rank, (h.1.a-left-link, h.1.no-right-one)))
+          | inl h ↦ inl (h.0, (marks_of_lem w h.1.sentinel-rank, (h.1.a_left_link, h.1.no_right_one)))
           | inr h ↦ inr (h.0, plain_of w h.1)
         ],
       )
@@ -190,8 +190,8 @@ module _ (n : ℕ) (t : List ℕ) (s : ℕ) where
   pub denies-unreadable : Denies (well_formed n s (view n t s)) (Unreadable (view n t) n s)
   denies-unreadable =
       record {
-        clear = λ e u. elim u [ outside-the-table h ↦ (let k = formed-in n t s e in omega arith) | not-well-formed h ↦ h ((says_formed _ n s).holds e) ];
-        struck = λ e. not-well-formed ((says_formed _ n s).fails e);
+        clear = λ e u. elim u [ outside_the_table h ↦ (let k = formed-in n t s e in omega arith) | not_well_formed h ↦ h ((says_formed _ n s).holds e) ];
+        struck = λ e. not_well_formed ((says_formed _ n s).fails e);
       }
 
   pub denies-child : Denies (linked n s (view n t s)) (ChildUnreadable (view n t) n s)

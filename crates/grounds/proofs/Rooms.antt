@@ -58,11 +58,11 @@ module _ (v : View) where
         let f = free_from v (n - s) s in
         let a = r.1 in
         let b = r.2 in
-        let h : f ≤ r.0 = elim (here-or-before f r.0) [ inl x ↦ x | inr x ↦ absurd ((scanned (n - s) s).none_before r.0 a x r.3) ] in
+        let h : f ≤ r.0 = elim (here_or_before f r.0) [ inl x ↦ x | inr x ↦ absurd ((scanned (n - s) s).none_before r.0 a x r.3) ] in
         (omega arith, later-room k (r.0 + 1) (f + 1) (omega arith) r.4)
       where
-        here-or-before : (f x : ℕ) → (f ≤ x) ⊎ (x < f)
-        here-or-before f x = go (leb f x) refl
+        here_or_before : (f x : ℕ) → (f ≤ x) ⊎ (x < f)
+        here_or_before f x = go (leb f x) refl
           where
             go : (b : Bool) → leb f x ≡ b → (f ≤ x) ⊎ (x < f)
             go true e = inl ((says_le f x).holds e)

@@ -12,7 +12,7 @@ use Rattle.terms.specs.declared.LevelRow.{LevelRow}
 use Rattle.terms.specs.declared.LevelRow.TheVariants.{NoRow, RotateOne, RotateTwo, DoubleRotation}
 use Rattle.machine.specs.Rows.{parent_row, level_row}
 use Rattle.machine.proofs.Choice.{if_elim}
-use Rattle.grounds.specs.Settle.{Close, Wide, Double, Row, promote, rotate-case-1, rotate-case-2, double-rotation, Passes28, RowDamaged, s-outranks-z, y-outranks-x, w-outranks-x, a-new-rank-would-pass-28, no-row-fits, PromoteDamaged, s-outranks-z-alone, promote-would-pass-28, no_row}
+use Rattle.grounds.specs.Settle.{Close, Wide, Double, Row, promote, rotate_case_1, rotate_case_2, double-rotation, Passes28, RowDamaged, s_outranks_z, y_outranks_x, w_outranks_x, a_new_rank_would_pass_28, no_row_fits, PromoteDamaged, s_outranks_z_alone, promote_would_pass_28, no_row}
 use Rattle.grounds.proofs.Says.{says_eq, says_lt, says_le}
 
 -- which row z and s ask for
@@ -72,14 +72,14 @@ close_wide z s (inr e) h = omega arith
 -- before x is read
 module _ (z s : ℕ) where
   pub promote-fine : Close z s → z < 28 → ¬ (PromoteDamaged z s)
-  promote-fine (inl e) h (s-outranks-z-alone x) = omega arith
-  promote-fine (inr e) h (s-outranks-z-alone x) = omega arith
-  promote-fine c h (promote-would-pass-28 d x) = omega arith
+  promote-fine (inl e) h (s_outranks_z_alone x) = omega arith
+  promote-fine (inr e) h (s_outranks_z_alone x) = omega arith
+  promote-fine c h (promote_would_pass_28 d x) = omega arith
   promote-fine c h (no_row f g) = f c
 
   pub wide_fine : Wide z s → ¬ (PromoteDamaged z s)
-  wide_fine h (s-outranks-z-alone x) = omega arith
-  wide_fine h (promote-would-pass-28 c x) = close_wide z s c h
+  wide_fine h (s_outranks_z_alone x) = omega arith
+  wide_fine h (promote_would_pass_28 c x) = close_wide z s c h
   wide_fine h (no_row f g) = g h
 
 -- a row that fits: how many slots, and what its new ranks tell
@@ -89,28 +89,28 @@ module _ (z x s y w : ℕ) where
 
   only_promote : Close z s → Only 1 (28 ≤ z)
   only_promote c k ranks (promote d) = (refl, λ p. elim p [ inl h ↦ omega arith | inr h ↦ absurd h ])
-  only_promote c k ranks (rotate-case-1 h a) = absurd (close_wide z s c h)
-  only_promote c k ranks (rotate-case-2 h a b) = absurd (close_wide z s c h)
+  only_promote c k ranks (rotate_case_1 h a) = absurd (close_wide z s c h)
+  only_promote c k ranks (rotate_case_2 h a b) = absurd (close_wide z s c h)
   only_promote c k ranks (double-rotation h) = absurd (close_wide z s c h.0)
 
   only_one : Wide z s → y + 2 ≤ x → x ≤ 28 → z ≡ x → Only 2 ⊥
   only_one h a m e k ranks (promote d) = absurd (close_wide z s d h)
-  only_one h a m e k ranks (rotate-case-1 i b) =
+  only_one h a m e k ranks (rotate_case_1 i b) =
       (refl, λ p. elim p [ inl o ↦ omega arith | inr o ↦ elim o [ inl r ↦ omega arith | inr r ↦ absurd r ] ])
-  only_one h a m e k ranks (rotate-case-2 i b c) = absurd (omega arith)
+  only_one h a m e k ranks (rotate_case_2 i b c) = absurd (omega arith)
   only_one h a m e k ranks (double-rotation i) = absurd (let b = i.1 in omega arith)
 
   only_two : Wide z s → x ≡ y + 1 → x ≡ w + 1 → z ≡ x → Only 2 (28 ≤ x)
   only_two h a b e k ranks (promote d) = absurd (close_wide z s d h)
-  only_two h a b e k ranks (rotate-case-1 i c) = absurd (omega arith)
-  only_two h a b e k ranks (rotate-case-2 i c d) =
+  only_two h a b e k ranks (rotate_case_1 i c) = absurd (omega arith)
+  only_two h a b e k ranks (rotate_case_2 i c d) =
       (refl, λ p. elim p [ inl o ↦ omega arith | inr o ↦ elim o [ inl r ↦ omega arith | inr r ↦ absurd r ] ])
   only_two h a b e k ranks (double-rotation i) = absurd (let c = i.2 in omega arith)
 
   only_double : Double z x s y w → x ≤ 28 → z ≡ x → Only 3 ⊥
   only_double h m e k ranks (promote d) = absurd (close_wide z s d h.0)
-  only_double h m e k ranks (rotate-case-1 i c) = absurd (let a = h.1 in omega arith)
-  only_double h m e k ranks (rotate-case-2 i c d) = absurd (let a = h.2 in omega arith)
+  only_double h m e k ranks (rotate_case_1 i c) = absurd (let a = h.1 in omega arith)
+  only_double h m e k ranks (rotate_case_2 i c d) = absurd (let a = h.2 in omega arith)
   only_double h m e k ranks (double-rotation i) = (
     refl,
     λ p.
@@ -123,11 +123,11 @@ module _ (z x s y w : ℕ) where
 
   -- what is damaged where a row fits and neither y nor w outranks x
   damaged_by : (i : ℕ) (P : Type 0) (ranks : List ℕ) → Only i P → Row z x s y w i ranks → ¬ (z < s) → (Wide z s → ¬ (x < y)) → (Wide z s → ¬ (x < w)) → RowDamaged z x s y w → P
-  damaged_by i P ranks o r a b c (s-outranks-z h) = absurd (a h)
-  damaged_by i P ranks o r a b c (y-outranks-x h e) = absurd (b h e)
-  damaged_by i P ranks o r a b c (w-outranks-x h e) = absurd (c h e)
-  damaged_by i P ranks o r a b c (a-new-rank-would-pass-28 k rs f p) = (o k rs f).1 p
-  damaged_by i P ranks o r a b c (no-row-fits f) = absurd (f i ranks r)
+  damaged_by i P ranks o r a b c (s_outranks_z h) = absurd (a h)
+  damaged_by i P ranks o r a b c (y_outranks_x h e) = absurd (b h e)
+  damaged_by i P ranks o r a b c (w_outranks_x h e) = absurd (c h e)
+  damaged_by i P ranks o r a b c (a_new_rank_would_pass_28 k rs f p) = (o k rs f).1 p
+  damaged_by i P ranks o r a b c (no_row_fits f) = absurd (f i ranks r)
 
   pub damaged_promote : Close z s → RowDamaged z x s y w → 28 ≤ z
   damaged_promote c = damaged_by 1 (28 ≤ z) _ (only_promote c) (promote c) (λ h. below c h) (λ h. absurd (close_wide z s c h)) (λ h. absurd (close_wide z s c h))
@@ -137,10 +137,10 @@ module _ (z x s y w : ℕ) where
       below (inr e) h = omega arith
 
   pub damaged_one : Wide z s → y + 2 ≤ x → w ≤ x → x ≤ 28 → z ≡ x → ¬ (RowDamaged z x s y w)
-  damaged_one h a b m e = damaged_by 2 ⊥ _ (only_one h a m e) (rotate-case-1 h a) (λ i. omega arith) (λ i k. omega arith) (λ i k. omega arith)
+  damaged_one h a b m e = damaged_by 2 ⊥ _ (only_one h a m e) (rotate_case_1 h a) (λ i. omega arith) (λ i k. omega arith) (λ i k. omega arith)
 
   pub damaged_two : Wide z s → x ≡ y + 1 → x ≡ w + 1 → z ≡ x → RowDamaged z x s y w → 28 ≤ x
-  damaged_two h a b e = damaged_by 2 (28 ≤ x) _ (only_two h a b e) (rotate-case-2 h a b) (λ i. omega arith) (λ i k. omega arith) (λ i k. omega arith)
+  damaged_two h a b e = damaged_by 2 (28 ≤ x) _ (only_two h a b e) (rotate_case_2 h a b) (λ i. omega arith) (λ i k. omega arith) (λ i k. omega arith)
 
   pub damaged_double : Double z x s y w → x ≤ 28 → z ≡ x → ¬ (RowDamaged z x s y w)
   damaged_double h m e =
@@ -150,21 +150,21 @@ module _ (z x s y w : ℕ) where
 
   -- where no row comes out, the table is damaged
   pub damaged_none : Wide z s → LevelIs x y w NoRow → RowDamaged z x s y w
-  damaged_none h (inl e) = y-outranks-x h e
-  damaged_none h (inr (inl e)) = w-outranks-x h e
-  damaged_none h (inr (inr (inl e))) = no-row-fits unfit
+  damaged_none h (inl e) = y_outranks_x h e
+  damaged_none h (inr (inl e)) = w_outranks_x h e
+  damaged_none h (inr (inr (inl e))) = no_row_fits unfit
     where
       unfit : (k : ℕ) (ranks : List ℕ) → ¬ (Row z x s y w k ranks)
       unfit k ranks (promote c) = close_wide z s c h
-      unfit k ranks (rotate-case-1 i a) = omega arith
-      unfit k ranks (rotate-case-2 i a b) = omega arith
+      unfit k ranks (rotate_case_1 i a) = omega arith
+      unfit k ranks (rotate_case_2 i a b) = omega arith
       unfit k ranks (double-rotation i) = let a = i.1 in omega arith
-  damaged_none h (inr (inr (inr (d, e)))) = no-row-fits unfit
+  damaged_none h (inr (inr (inr (d, e)))) = no_row_fits unfit
     where
       unfit : (k : ℕ) (ranks : List ℕ) → ¬ (Row z x s y w k ranks)
       unfit k ranks (promote c) = close_wide z s c h
-      unfit k ranks (rotate-case-1 i a) = omega arith
-      unfit k ranks (rotate-case-2 i a b) = omega arith
+      unfit k ranks (rotate_case_1 i a) = omega arith
+      unfit k ranks (rotate_case_2 i a b) = omega arith
       unfit k ranks (double-rotation i) = let a = i.2 in omega arith
 
   -- how many slots: R k says that there are k
@@ -179,10 +179,10 @@ module _ (z x s y w : ℕ) where
     short_promote c = short_by 1 (28 ≤ z) _ (only_promote c) (promote c)
 
     pub short_one : Wide z s → y + 2 ≤ x → x ≤ 28 → z ≡ x → (¬ (R 2)) ↔ Short
-    short_one h a m e = short_by 2 ⊥ _ (only_one h a m e) (rotate-case-1 h a)
+    short_one h a m e = short_by 2 ⊥ _ (only_one h a m e) (rotate_case_1 h a)
 
     pub short_two : Wide z s → x ≡ y + 1 → x ≡ w + 1 → z ≡ x → (¬ (R 2)) ↔ Short
-    short_two h a b e = short_by 2 (28 ≤ x) _ (only_two h a b e) (rotate-case-2 h a b)
+    short_two h a b e = short_by 2 (28 ≤ x) _ (only_two h a b e) (rotate_case_2 h a b)
 
     pub short_double : Double z x s y w → x ≤ 28 → z ≡ x → (¬ (R 3)) ↔ Short
     short_double h m e = short_by 3 ⊥ _ (only_double h m e) (double-rotation h)

@@ -21,10 +21,10 @@ use Rattle.machine.specs.Record.{well_formed, level, other}
 use Rattle.machine.specs.Table.{View, view}
 use Rattle.machine.specs.Rows.{link_at, around_of}
 use Rattle.machine.specs.Settling.{grounds_two, grounds_three, grounds_four, test_two, test_three, test_four, promote_do, rotate_do, rotate_two_do, double_do, rotate_by, double_by, promote_by, choose_formed, turn_formed, is_wider, is_double}
-use Rattle.grounds.specs.Record.{WellFormed, Level, LeadTo, Unreadable, not-well-formed, ChildUnreadable, there-but}
+use Rattle.grounds.specs.Record.{WellFormed, Level, LeadTo, Unreadable, not_well_formed, ChildUnreadable, there-but}
 use Rattle.grounds.specs.Room.{Room}
-use Rattle.grounds.specs.Settle.{Other, x-is-left, x-is-not-left, Named, s-is-right, s-is-left, LetS, LetSYW, Close, Wide, Double, Row, promote, RowDamaged, s-outranks-z, a-new-rank-would-pass-28, PromoteDamaged, s-outranks-z-alone, promote-would-pass-28, rotate-case-2}
-use Rattle.grounds.specs.Commits.{SettleBefore, one-and-the-same, pz-doesnt-lead-on, z-doesnt-lead-on, not-level-with-its-parent, TestTwo, TestThree, TestFour}
+use Rattle.grounds.specs.Settle.{Other, x_is_left, x_is_not_left, Named, s_is_right, s_is_left, LetS, LetSYW, Close, Wide, Double, Row, promote, RowDamaged, s_outranks_z, a_new_rank_would_pass_28, PromoteDamaged, s_outranks_z_alone, promote_would_pass_28, rotate_case_2}
+use Rattle.grounds.specs.Commits.{SettleBefore, one_and_the_same, pz_doesnt_lead_on, z_doesnt_lead_on, not_level_with_its_parent, TestTwo, TestThree, TestFour}
 use Rattle.grounds.proofs.Says.{Says, says_both, Denies, denies, denies-not, denies-as, denies-both, says_eq, says_le}
 use Rattle.grounds.proofs.Falls.{serves, strikes, passes, if_falls, look}
 use Rattle.grounds.proofs.Records.{says_formed, says_level, says_still, says_leads, denies-unreadable, denies-child}
@@ -38,12 +38,12 @@ unfolding other if_b
 at-s b x G = (λ h. once h.0 h.1 h.2, λ g. let r = found (eqb b.left x) refl in (other b x, r, g))
   where
     once : (s : ℕ) → Other b x s → G s → G (other b x)
-    once s (x-is-left e) g = rw (eq-eqb b.left x e) g
-    once s (x-is-not-left e) g = rw (ne_eqb b.left x e) g
+    once s (x_is_left e) g = rw (eq-eqb b.left x e) g
+    once s (x_is_not_left e) g = rw (ne_eqb b.left x e) g
 
     found : (c : Bool) → eqb b.left x ≡ c → Other b x (if_b c b.right b.left)
-    found true e = x-is-left ((says_eq b.left x).holds e)
-    found false e = x-is-not-left ((says_eq b.left x).fails e)
+    found true e = x_is_left ((says_eq b.left x).holds e)
+    found false e = x_is_not_left ((says_eq b.left x).fails e)
 
 -- ".., y the child of x on the side of s, w the other child of x"
 module _ (q : Path) (a b c : Links) where
@@ -52,14 +52,14 @@ module _ (q : Path) (a b c : Links) where
   at-syw G = (λ h. once h.0 h.1 h.2 h.3 h.4, λ g. (_, _, _, found (eqb b.left q.here) refl, g))
     where
       once : (s y w : ℕ) → Named b c q.here s y w → G s y w → G (other b q.here) (around_of q a b c).y (around_of q a b c).w
-      once s y w (s-is-right e) g = rw (eq-eqb b.left q.here e) g
-      once s y w (s-is-left e) g = rw (ne_eqb b.left q.here e) g
+      once s y w (s_is_right e) g = rw (eq-eqb b.left q.here e) g
+      once s y w (s_is_left e) g = rw (ne_eqb b.left q.here e) g
 
       found :
           (d : Bool) → eqb b.left q.here ≡ d
           → Named b c q.here (if_b d b.right b.left) (link_at (not d) c) (link_at d c)
-      found true e = s-is-right ((says_eq b.left q.here).holds e)
-      found false e = s-is-left ((says_eq b.left q.here).fails e)
+      found true e = s_is_right ((says_eq b.left q.here).holds e)
+      found false e = s_is_left ((says_eq b.left q.here).fails e)
 
 module _ (n : ℕ) (t : List ℕ) (q : Path) where
   -- the records that a choice reads
@@ -101,20 +101,20 @@ module _ (n : ℕ) (t : List ℕ) (q : Path) where
 
     to-two : Raw → Unreadable (view n t) n q.grand ⊎ Two
     to-two (inl x) = inl x
-    to-two (inr (inl x)) = inr (one-and-the-same (inl (inl x)))
-    to-two (inr (inr (inl x))) = inr (pz-doesnt-lead-on x)
-    to-two (inr (inr (inr (inl x)))) = inr (z-doesnt-lead-on x)
-    to-two (inr (inr (inr (inr x)))) = inr (not-level-with-its-parent x)
+    to-two (inr (inl x)) = inr (one_and_the_same (inl (inl x)))
+    to-two (inr (inr (inl x))) = inr (pz_doesnt_lead_on x)
+    to-two (inr (inr (inr (inl x)))) = inr (z_doesnt_lead_on x)
+    to-two (inr (inr (inr (inr x)))) = inr (not_level_with_its_parent x)
 
     from-two : Unreadable (view n t) n q.grand ⊎ Two → Raw
     from-two (inl x) = inl x
-    from-two (inr (one-and-the-same (inl (inl x)))) = inr (inl x)
-    from-two (inr (one-and-the-same (inl (inr x)))) = absurd x
-    from-two (inr (one-and-the-same (inr (inl x)))) = absurd x
-    from-two (inr (one-and-the-same (inr (inr x)))) = absurd x
-    from-two (inr (pz-doesnt-lead-on x)) = inr (inr (inl x))
-    from-two (inr (z-doesnt-lead-on x)) = inr (inr (inr (inl x)))
-    from-two (inr (not-level-with-its-parent x)) = inr (inr (inr (inr x)))
+    from-two (inr (one_and_the_same (inl (inl x)))) = inr (inl x)
+    from-two (inr (one_and_the_same (inl (inr x)))) = absurd x
+    from-two (inr (one_and_the_same (inr (inl x)))) = absurd x
+    from-two (inr (one_and_the_same (inr (inr x)))) = absurd x
+    from-two (inr (pz_doesnt_lead_on x)) = inr (inr (inl x))
+    from-two (inr (z_doesnt_lead_on x)) = inr (inr (inr (inl x)))
+    from-two (inr (not_level_with_its_parent x)) = inr (inr (inr (inr x)))
 
     -- before the test, with pz and z read
     pub denies-two : Denies (grounds_two n q a b (view n t q.grand) (view n t q.parent) (view n t q.here)) (Unreadable (view n t) n q.grand ⊎ Two)
@@ -128,31 +128,31 @@ module _ (n : ℕ) (t : List ℕ) (q : Path) where
     denies-raw_three = denies-both _ _ denies-raw (denies-both _ _ (denies _ (says_eq q.grand q.here)) (denies _ (says_eq q.parent q.here)))
 
     more : {i : ℕ} → SettleBefore (view n t) q a b (q.grand ∷ q.parent ∷ []) → SettleBefore (view n t) q a b (q.grand ∷ q.parent ∷ i ∷ [])
-    more (one-and-the-same (inl (inl x))) = one-and-the-same (inl (inl x))
-    more (one-and-the-same (inl (inr x))) = absurd x
-    more (one-and-the-same (inr (inl x))) = absurd x
-    more (one-and-the-same (inr (inr x))) = absurd x
-    more (pz-doesnt-lead-on x) = pz-doesnt-lead-on x
-    more (z-doesnt-lead-on x) = z-doesnt-lead-on x
-    more (not-level-with-its-parent x) = not-level-with-its-parent x
+    more (one_and_the_same (inl (inl x))) = one_and_the_same (inl (inl x))
+    more (one_and_the_same (inl (inr x))) = absurd x
+    more (one_and_the_same (inr (inl x))) = absurd x
+    more (one_and_the_same (inr (inr x))) = absurd x
+    more (pz_doesnt_lead_on x) = pz_doesnt_lead_on x
+    more (z_doesnt_lead_on x) = z_doesnt_lead_on x
+    more (not_level_with_its_parent x) = not_level_with_its_parent x
 
     to-three : RawThree → Unreadable (view n t) n q.grand ⊎ Three
     to-three (inl r) = elim (to-two r) [ inl x ↦ inl x | inr x ↦ inr (more x) ]
-    to-three (inr (inl e)) = inr (one-and-the-same (inl (inr (inl e))))
-    to-three (inr (inr e)) = inr (one-and-the-same (inr (inl (inl e))))
+    to-three (inr (inl e)) = inr (one_and_the_same (inl (inr (inl e))))
+    to-three (inr (inr e)) = inr (one_and_the_same (inr (inl (inl e))))
 
     from-three : Unreadable (view n t) n q.grand ⊎ Three → RawThree
     from-three (inl x) = inl (inl x)
-    from-three (inr (one-and-the-same (inl (inl x)))) = inl (inr (inl x))
-    from-three (inr (one-and-the-same (inl (inr (inl x))))) = inr (inl x)
-    from-three (inr (one-and-the-same (inl (inr (inr x))))) = absurd x
-    from-three (inr (one-and-the-same (inr (inl (inl x))))) = inr (inr x)
-    from-three (inr (one-and-the-same (inr (inl (inr x))))) = absurd x
-    from-three (inr (one-and-the-same (inr (inr (inl x))))) = absurd x
-    from-three (inr (one-and-the-same (inr (inr (inr x))))) = absurd x
-    from-three (inr (pz-doesnt-lead-on x)) = inl (inr (inr (inl x)))
-    from-three (inr (z-doesnt-lead-on x)) = inl (inr (inr (inr (inl x))))
-    from-three (inr (not-level-with-its-parent x)) = inl (inr (inr (inr (inr x))))
+    from-three (inr (one_and_the_same (inl (inl x)))) = inl (inr (inl x))
+    from-three (inr (one_and_the_same (inl (inr (inl x))))) = inr (inl x)
+    from-three (inr (one_and_the_same (inl (inr (inr x))))) = absurd x
+    from-three (inr (one_and_the_same (inr (inl (inl x))))) = inr (inr x)
+    from-three (inr (one_and_the_same (inr (inl (inr x))))) = absurd x
+    from-three (inr (one_and_the_same (inr (inr (inl x))))) = absurd x
+    from-three (inr (one_and_the_same (inr (inr (inr x))))) = absurd x
+    from-three (inr (pz_doesnt_lead_on x)) = inl (inr (inr (inl x)))
+    from-three (inr (z_doesnt_lead_on x)) = inl (inr (inr (inr (inl x))))
+    from-three (inr (not_level_with_its_parent x)) = inl (inr (inr (inr (inr x))))
 
     -- with x read
     pub denies-three : Denies (grounds_three n q a b (view n t q.grand) (view n t q.parent) (view n t q.here)) (Unreadable (view n t) n q.grand ⊎ Three)
@@ -166,41 +166,41 @@ module _ (n : ℕ) (t : List ℕ) (q : Path) where
       Fourth = Unreadable (view n t) n q.grand ⊎ (ChildUnreadable (view n t) n y ⊎ FourWith y)
 
       three-more : Three → FourWith y
-      three-more (one-and-the-same (inl (inl x))) = one-and-the-same (inl (inl x))
-      three-more (one-and-the-same (inl (inr (inl x)))) = one-and-the-same (inl (inr (inl x)))
-      three-more (one-and-the-same (inl (inr (inr x)))) = absurd x
-      three-more (one-and-the-same (inr (inl (inl x)))) = one-and-the-same (inr (inl (inl x)))
-      three-more (one-and-the-same (inr (inl (inr x)))) = absurd x
-      three-more (one-and-the-same (inr (inr (inl x)))) = absurd x
-      three-more (one-and-the-same (inr (inr (inr x)))) = absurd x
-      three-more (pz-doesnt-lead-on x) = pz-doesnt-lead-on x
-      three-more (z-doesnt-lead-on x) = z-doesnt-lead-on x
-      three-more (not-level-with-its-parent x) = not-level-with-its-parent x
+      three-more (one_and_the_same (inl (inl x))) = one_and_the_same (inl (inl x))
+      three-more (one_and_the_same (inl (inr (inl x)))) = one_and_the_same (inl (inr (inl x)))
+      three-more (one_and_the_same (inl (inr (inr x)))) = absurd x
+      three-more (one_and_the_same (inr (inl (inl x)))) = one_and_the_same (inr (inl (inl x)))
+      three-more (one_and_the_same (inr (inl (inr x)))) = absurd x
+      three-more (one_and_the_same (inr (inr (inl x)))) = absurd x
+      three-more (one_and_the_same (inr (inr (inr x)))) = absurd x
+      three-more (pz_doesnt_lead_on x) = pz_doesnt_lead_on x
+      three-more (z_doesnt_lead_on x) = z_doesnt_lead_on x
+      three-more (not_level_with_its_parent x) = not_level_with_its_parent x
 
       to-four : RawFour → Fourth
       to-four (inl r) = elim (to-three r) [ inl x ↦ inl x | inr x ↦ inr (inr (three-more x)) ]
       to-four (inr (inl x)) = inr (inl x)
-      to-four (inr (inr (inl e))) = inr (inr (one-and-the-same (inl (inr (inr (inl e))))))
-      to-four (inr (inr (inr (inl e)))) = inr (inr (one-and-the-same (inr (inl (inr (inl e))))))
-      to-four (inr (inr (inr (inr e)))) = inr (inr (one-and-the-same (inr (inr (inl (inl e))))))
+      to-four (inr (inr (inl e))) = inr (inr (one_and_the_same (inl (inr (inr (inl e))))))
+      to-four (inr (inr (inr (inl e)))) = inr (inr (one_and_the_same (inr (inl (inr (inl e))))))
+      to-four (inr (inr (inr (inr e)))) = inr (inr (one_and_the_same (inr (inr (inl (inl e))))))
 
       from-four : Fourth → RawFour
       from-four (inl x) = inl (inl (inl x))
       from-four (inr (inl x)) = inr (inl x)
-      from-four (inr (inr (one-and-the-same (inl (inl x))))) = inl (inl (inr (inl x)))
-      from-four (inr (inr (one-and-the-same (inl (inr (inl x)))))) = inl (inr (inl x))
-      from-four (inr (inr (one-and-the-same (inl (inr (inr (inl x))))))) = inr (inr (inl x))
-      from-four (inr (inr (one-and-the-same (inl (inr (inr (inr x))))))) = absurd x
-      from-four (inr (inr (one-and-the-same (inr (inl (inl x)))))) = inl (inr (inr x))
-      from-four (inr (inr (one-and-the-same (inr (inl (inr (inl x))))))) = inr (inr (inr (inl x)))
-      from-four (inr (inr (one-and-the-same (inr (inl (inr (inr x))))))) = absurd x
-      from-four (inr (inr (one-and-the-same (inr (inr (inl (inl x))))))) = inr (inr (inr (inr x)))
-      from-four (inr (inr (one-and-the-same (inr (inr (inl (inr x))))))) = absurd x
-      from-four (inr (inr (one-and-the-same (inr (inr (inr (inl x))))))) = absurd x
-      from-four (inr (inr (one-and-the-same (inr (inr (inr (inr x))))))) = absurd x
-      from-four (inr (inr (pz-doesnt-lead-on x))) = inl (inl (inr (inr (inl x))))
-      from-four (inr (inr (z-doesnt-lead-on x))) = inl (inl (inr (inr (inr (inl x)))))
-      from-four (inr (inr (not-level-with-its-parent x))) = inl (inl (inr (inr (inr (inr x)))))
+      from-four (inr (inr (one_and_the_same (inl (inl x))))) = inl (inl (inr (inl x)))
+      from-four (inr (inr (one_and_the_same (inl (inr (inl x)))))) = inl (inr (inl x))
+      from-four (inr (inr (one_and_the_same (inl (inr (inr (inl x))))))) = inr (inr (inl x))
+      from-four (inr (inr (one_and_the_same (inl (inr (inr (inr x))))))) = absurd x
+      from-four (inr (inr (one_and_the_same (inr (inl (inl x)))))) = inl (inr (inr x))
+      from-four (inr (inr (one_and_the_same (inr (inl (inr (inl x))))))) = inr (inr (inr (inl x)))
+      from-four (inr (inr (one_and_the_same (inr (inl (inr (inr x))))))) = absurd x
+      from-four (inr (inr (one_and_the_same (inr (inr (inl (inl x))))))) = inr (inr (inr (inr x)))
+      from-four (inr (inr (one_and_the_same (inr (inr (inl (inr x))))))) = absurd x
+      from-four (inr (inr (one_and_the_same (inr (inr (inr (inl x))))))) = absurd x
+      from-four (inr (inr (one_and_the_same (inr (inr (inr (inr x))))))) = absurd x
+      from-four (inr (inr (pz_doesnt_lead_on x))) = inl (inl (inr (inr (inl x))))
+      from-four (inr (inr (z_doesnt_lead_on x))) = inl (inl (inr (inr (inr (inl x)))))
+      from-four (inr (inr (not_level_with_its_parent x))) = inl (inl (inr (inr (inr (inr x)))))
 
       -- with y read
       pub denies-four : Denies (grounds_four n q a b y (view n t q.grand) (view n t q.parent) (view n t q.here) (view n t y)) Fourth
@@ -241,7 +241,7 @@ module _ (n : ℕ) (t : List ℕ) (q : Path) where
       ]
     where
       marked : (view n t q.here).rank ≡ 255 → ⊥
-      marked e = let k = w.together-or-not-at-all.1 e in l.0 (k, e, w.sentinel-price k)
+      marked e = let k = w.together_or_not_at_all.1 e in l.0 (k, e, w.sentinel-price k)
 
   pub level-small :
       ¬ (ChildUnreadable (view n t) n q.here) → ¬ (¬ (Level (view n t q.parent) (view n t q.here)))
@@ -254,7 +254,7 @@ module _ (n : ℕ) (t : List ℕ) (q : Path) where
       go true e true f =
           let l = (says_level (view n t q.here) (view n t q.parent)).holds e in
           (small ((says_formed _ n q.here).holds f) l, sym l.1)
-      go true e false f = absurd (h (there-but (not-well-formed ((says_formed _ n q.here).fails f))))
+      go true e false f = absurd (h (there-but (not_well_formed ((says_formed _ n q.here).fails f))))
       go false e d f = absurd (k ((says_level (view n t q.here) (view n t q.parent)).fails e))
 
 -- THE CHANGES, after the test has held
@@ -264,10 +264,10 @@ module _ (n : ℕ) (v : View) (j : Job) (q : Path) (z x : Rec) where
       (row : ParentRow) (a b : Links) (s : ℕ) → ParentIs z.rank s row → is_wider row ≡ false
       → Fours (number_did (promote_by row v n j q a b z)) (PromoteDamaged z.rank s) ⊥ ⊥ (Close z.rank s × (¬ (Room v n 1)))
   unfolding promote_by promote_do
-  promote-alone Outranked a b s h e = strikes (s-outranks-z-alone h) refl
+  promote-alone Outranked a b s h e = strikes (s_outranks_z_alone h) refl
   promote-alone Promote a b s h e =
       if_falls (λ d. Fours (number_did d) (PromoteDamaged z.rank s) ⊥ ⊥ (Close z.rank s × (¬ (Room v n 1)))) _
-      (λ f. let k = (says_le 28 z.rank).holds f in strikes (promote-would-pass-28 h (omega arith)) refl)
+      (λ f. let k = (says_le 28 z.rank).holds f in strikes (promote_would_pass_28 h (omega arith)) refl)
       (λ f.
       let k = (says_le 28 z.rank).fails f in
       passes (promote-fine z.rank s h (omega arith))
@@ -288,10 +288,10 @@ module _ (n : ℕ) (v : View) (j : Job) (q : Path) (z x : Rec) where
     pub promote-change :
         (row : ParentRow) (a b : Links) → ParentIs z.rank s row → is_wider row ≡ false → Fours (number_did (promote_by row v n j q a b z)) Damage ⊥ ⊥ Few
     unfolding promote_by promote_do
-    promote-change Outranked a b h e = strikes (s-outranks-z h) refl
+    promote-change Outranked a b h e = strikes (s_outranks_z h) refl
     promote-change Promote a b h e =
         if_falls (λ d. Fours (number_did d) Damage ⊥ ⊥ Few) _
-        (λ f. let k = (says_le 28 z.rank).holds f in strikes (a-new-rank-would-pass-28 1 _ (promote h) (inl (omega arith))) refl)
+        (λ f. let k = (says_le 28 z.rank).holds f in strikes (a_new_rank_would_pass_28 1 _ (promote h) (inl (omega arith))) refl)
         (λ f.
         let k = (says_le 28 z.rank).fails f in
         passes (λ d. k (damaged_promote z.rank x.rank s y w h d))
@@ -314,7 +314,7 @@ module _ (n : ℕ) (v : View) (j : Job) (q : Path) (z x : Rec) where
           (look number_did plain_answers _ (says_no_room_2 v n) refl (λ i. serves (inl refl))))))
       rotate-change RotateTwo h e =
           if_falls (λ d. Fours (number_did d) Damage ⊥ ⊥ Few) _
-          (λ f. let k = (says_le 28 x.rank).holds f in strikes (a-new-rank-would-pass-28 2 _ (rotate-case-2 wide h.0 h.1) (inl (omega arith))) refl)
+          (λ f. let k = (says_le 28 x.rank).holds f in strikes (a_new_rank_would_pass_28 2 _ (rotate_case_2 wide h.0 h.1) (inl (omega arith))) refl)
           (λ f.
           let k = (says_le 28 x.rank).fails f in
           passes (λ d. k (damaged_two z.rank x.rank s y w wide h.0 h.1 eq d))

@@ -26,9 +26,9 @@ use Rattle.grounds.specs.Order.{Among}
 use Rattle.grounds.specs.Record.{Unreadable, ChildUnreadable}
 use Rattle.grounds.specs.Room.{Room}
 use Rattle.grounds.specs.Settle.{Close, Wide, Double, PromoteDamaged}
-use Rattle.grounds.specs.Reads.{z-to-choose, x-to-choose, s-to-choose, y-to-rotate, w-to-rotate, pz-to-commit, y-to-commit, ChooseUnreadable, RotateUnreadable, DoubleUnreadable, DoubleNow}
-use Rattle.grounds.specs.Commits.{with-pz-and-z-read, with-x-read, with-y-read, SettleBefore, not-level-with-its-parent, TestTwo, TestThree, TestFour, RowDamagedNow, NoSlotsNow, AtLimit, WithoutRoom, TooFewSlots}
-use Rattle.grounds.specs.Step.{PhaseDamaged, record-unreadable, arrival-outranks, before-the-test, after-the-test}
+use Rattle.grounds.specs.Reads.{z_to_choose, x_to_choose, s_to_choose, y_to_rotate, w_to_rotate, pz_to_commit, y_to_commit, ChooseUnreadable, RotateUnreadable, DoubleUnreadable, DoubleNow}
+use Rattle.grounds.specs.Commits.{with_pz_and_z_read, with_x_read, with_y_read, SettleBefore, not_level_with_its_parent, TestTwo, TestThree, TestFour, RowDamagedNow, NoSlotsNow, AtLimit, WithoutRoom, TooFewSlots}
+use Rattle.grounds.specs.Step.{PhaseDamaged, record_unreadable, arrival-outranks, before_the_test, after_the_test}
 use Rattle.grounds.proofs.Says.{says_struck}
 use Rattle.grounds.proofs.Falls.{if_falls}
 use Rattle.grounds.proofs.Records.{denies-unreadable}
@@ -117,31 +117,31 @@ module _ (n : ℕ) (t : List ℕ) (j : Job) (q : Path) where
     ChooseDamaged = PhaseDamaged (view n t) n j (Settling q (SettleChoose a b))
 
     unread_s : ChooseUnreadable (view n t) n q so → ChooseDamaged
-    unread_s x = record-unreadable ((at-s b q.here (λ s. ChooseUnreadable (view n t) n q s)).1 x)
+    unread_s x = record_unreadable ((at-s b q.here (λ s. ChooseUnreadable (view n t) n q s)).1 x)
 
     choose_to : Chosen so ⊎ ChooseRest → ChooseDamaged
-    choose_to (inl (inl x)) = unread_s (z-to-choose x)
-    choose_to (inl (inr (inl x))) = unread_s (x-to-choose x)
-    choose_to (inl (inr (inr x))) = unread_s (s-to-choose x)
-    choose_to (inr (inl (w, inl x))) = unread_s (pz-to-commit w x)
+    choose_to (inl (inl x)) = unread_s (z_to_choose x)
+    choose_to (inl (inr (inl x))) = unread_s (x_to_choose x)
+    choose_to (inl (inr (inr x))) = unread_s (s_to_choose x)
+    choose_to (inr (inl (w, inl x))) = unread_s (pz_to_commit w x)
     choose_to (inr (inl (w, inr x))) =
-        before-the-test (with-pz-and-z-read
+        before_the_test (with_pz_and_z_read
         ((at-s b q.here (λ s. (¬ (Wide zr (rank_at s))) × SettleBefore (view n t) q a b (q.grand ∷ q.parent ∷ []))).1 (w, x)))
-    choose_to (inr (inr x)) = after-the-test (with-pz-and-z-read ((at-s b q.here (λ s. TestTwo (view n t) q a b × PromoteDamaged zr (rank_at s))).1 x))
+    choose_to (inr (inr x)) = after_the_test (with_pz_and_z_read ((at-s b q.here (λ s. TestTwo (view n t) q a b × PromoteDamaged zr (rank_at s))).1 x))
 
     choose_unread : ChooseUnreadable (view n t) n q so → Chosen so ⊎ ChooseRest
-    choose_unread (z-to-choose x) = inl (inl x)
-    choose_unread (x-to-choose x) = inl (inr (inl x))
-    choose_unread (s-to-choose x) = inl (inr (inr x))
-    choose_unread (pz-to-commit w x) = inr (inl (w, inl x))
+    choose_unread (z_to_choose x) = inl (inl x)
+    choose_unread (x_to_choose x) = inl (inr (inl x))
+    choose_unread (s_to_choose x) = inl (inr (inr x))
+    choose_unread (pz_to_commit w x) = inr (inl (w, inl x))
 
     choose_from : ChooseDamaged → Chosen so ⊎ ChooseRest
-    choose_from (record-unreadable x) = choose_unread ((at-s b q.here (λ s. ChooseUnreadable (view n t) n q s)).0 x)
+    choose_from (record_unreadable x) = choose_unread ((at-s b q.here (λ s. ChooseUnreadable (view n t) n q s)).0 x)
     choose_from (arrival-outranks x) = elim x [ ]
-    choose_from (before-the-test (with-pz-and-z-read x)) =
+    choose_from (before_the_test (with_pz_and_z_read x)) =
         let y = (at-s b q.here (λ s. (¬ (Wide zr (rank_at s))) × SettleBefore (view n t) q a b (q.grand ∷ q.parent ∷ []))).0 x in
         inr (inl (y.0, inr y.1))
-    choose_from (after-the-test (with-pz-and-z-read x)) = inr (inr ((at-s b q.here (λ s. TestTwo (view n t) q a b × PromoteDamaged zr (rank_at s))).0 x))
+    choose_from (after_the_test (with_pz_and_z_read x)) = inr (inr ((at-s b q.here (λ s. TestTwo (view n t) q a b × PromoteDamaged zr (rank_at s))).0 x))
 
     choose_fours :
         (m : ℕ)
@@ -151,10 +151,10 @@ module _ (n : ℕ) (t : List ℕ) (j : Job) (q : Path) where
     unfolding choose_step
     choose_fours m =
         fours_as (choose_to, choose_from) (λ g. absurd g, λ g. elim g [ ]) (λ g. absurd g, λ g. elim g [ ]) (
-          λ g. with-pz-and-z-read ((at-s b q.here (λ s. TestTwo (view n t) q a b × Close zr (rank_at s) × (¬ (Room (view n t) n 1)))).1 g),
+          λ g. with_pz_and_z_read ((at-s b q.here (λ s. TestTwo (view n t) q a b × Close zr (rank_at s) × (¬ (Room (view n t) n 1)))).1 g),
           λ g.
               elim g [
-                | with-pz-and-z-read x ↦ (at-s b q.here (λ s. TestTwo (view n t) q a b × Close zr (rank_at s) × (¬ (Room (view n t) n 1)))).0 x
+                | with_pz_and_z_read x ↦ (at-s b q.here (λ s. TestTwo (view n t) q a b × Close zr (rank_at s) × (¬ (Room (view n t) n 1)))).0 x
               ],
         )
         (either-falls number_did (not (choose_formed n q b (view n t q.parent) (view n t q.here) (view n t so)))
@@ -197,7 +197,7 @@ module _ (n : ℕ) (t : List ℕ) (j : Job) (q : Path) where
 
       level-now :
           ¬ (Chosen so) → ¬ Three → (xr ≤ 28) × (zr ≡ xr)
-      level-now h k = level-small n t q (λ g. h (inr (inl g))) (λ g. k (inr (not-level-with-its-parent g)))
+      level-now h k = level-small n t q (λ g. h (inr (inl g))) (λ g. k (inr (not_level_with_its_parent g)))
 
       turned :
           (row : LevelRow) → LevelIs xr (rank_at ys) (rank_at ws) row → Wide zr (rank_at so) → ¬ (Chosen so)
@@ -244,31 +244,31 @@ module _ (n : ℕ) (t : List ℕ) (j : Job) (q : Path) where
       AfterThree s y w = (¬ (DoubleNow (view n t) q s y w)) × TestThree (view n t) q a b c × RowDamagedNow (view n t) q s y w
 
       unread_three : RotateUnreadable (view n t) n q so ys ws → RotateDamaged
-      unread_three x = record-unreadable ((at-syw q a b c (λ s y w. RotateUnreadable (view n t) n q s y w)).1 x)
+      unread_three x = record_unreadable ((at-syw q a b c (λ s y w. RotateUnreadable (view n t) n q s y w)).1 x)
 
       rotate-to : Chosen so ⊎ RotateRest → RotateDamaged
-      rotate-to (inl (inl x)) = unread_three (z-to-choose x)
-      rotate-to (inl (inr (inl x))) = unread_three (x-to-choose x)
-      rotate-to (inl (inr (inr x))) = unread_three (s-to-choose x)
-      rotate-to (inr (inl (w, inl x))) = unread_three (y-to-rotate w x)
-      rotate-to (inr (inl (w, inr x))) = unread_three (w-to-rotate w x)
-      rotate-to (inr (inr (inl (d, inl x)))) = unread_three (pz-to-commit d x)
-      rotate-to (inr (inr (inl (d, inr x)))) = before-the-test (with-x-read ((at-syw q a b c BeforeThree).1 (d, x)))
-      rotate-to (inr (inr (inr x))) = after-the-test (with-x-read ((at-syw q a b c AfterThree).1 x))
+      rotate-to (inl (inl x)) = unread_three (z_to_choose x)
+      rotate-to (inl (inr (inl x))) = unread_three (x_to_choose x)
+      rotate-to (inl (inr (inr x))) = unread_three (s_to_choose x)
+      rotate-to (inr (inl (w, inl x))) = unread_three (y_to_rotate w x)
+      rotate-to (inr (inl (w, inr x))) = unread_three (w_to_rotate w x)
+      rotate-to (inr (inr (inl (d, inl x)))) = unread_three (pz_to_commit d x)
+      rotate-to (inr (inr (inl (d, inr x)))) = before_the_test (with_x_read ((at-syw q a b c BeforeThree).1 (d, x)))
+      rotate-to (inr (inr (inr x))) = after_the_test (with_x_read ((at-syw q a b c AfterThree).1 x))
 
       rotate-unread : RotateUnreadable (view n t) n q so ys ws → Chosen so ⊎ RotateRest
-      rotate-unread (z-to-choose x) = inl (inl x)
-      rotate-unread (x-to-choose x) = inl (inr (inl x))
-      rotate-unread (s-to-choose x) = inl (inr (inr x))
-      rotate-unread (y-to-rotate w x) = inr (inl (w, inl x))
-      rotate-unread (w-to-rotate w x) = inr (inl (w, inr x))
-      rotate-unread (pz-to-commit d x) = inr (inr (inl (d, inl x)))
+      rotate-unread (z_to_choose x) = inl (inl x)
+      rotate-unread (x_to_choose x) = inl (inr (inl x))
+      rotate-unread (s_to_choose x) = inl (inr (inr x))
+      rotate-unread (y_to_rotate w x) = inr (inl (w, inl x))
+      rotate-unread (w_to_rotate w x) = inr (inl (w, inr x))
+      rotate-unread (pz_to_commit d x) = inr (inr (inl (d, inl x)))
 
       rotate-from : RotateDamaged → Chosen so ⊎ RotateRest
-      rotate-from (record-unreadable x) = rotate-unread ((at-syw q a b c (λ s y w. RotateUnreadable (view n t) n q s y w)).0 x)
+      rotate-from (record_unreadable x) = rotate-unread ((at-syw q a b c (λ s y w. RotateUnreadable (view n t) n q s y w)).0 x)
       rotate-from (arrival-outranks x) = elim x [ ]
-      rotate-from (before-the-test (with-x-read x)) = let y = (at-syw q a b c BeforeThree).0 x in inr (inr (inl (y.0, inr y.1)))
-      rotate-from (after-the-test (with-x-read x)) = inr (inr (inr ((at-syw q a b c AfterThree).0 x)))
+      rotate-from (before_the_test (with_x_read x)) = let y = (at-syw q a b c BeforeThree).0 x in inr (inr (inl (y.0, inr y.1)))
+      rotate-from (after_the_test (with_x_read x)) = inr (inr (inr ((at-syw q a b c AfterThree).0 x)))
 
       abbrev FewThree : ℕ → ℕ → ℕ → Type 0
       FewThree s y w = (¬ (DoubleNow (view n t) q s y w)) × TestThree (view n t) q a b c × NoSlotsNow (view n t) n q s y w
@@ -281,7 +281,7 @@ module _ (n : ℕ) (t : List ℕ) (j : Job) (q : Path) where
       unfolding rotate_step
       rotate-fours m =
           fours_as (rotate-to, rotate-from) (λ g. absurd g, λ g. elim g [ ]) (λ g. absurd g, λ g. elim g [ ])
-          (λ g. with-x-read ((at-syw q a b c FewThree).1 g), λ g. elim g [ with-x-read x ↦ (at-syw q a b c FewThree).0 x ])
+          (λ g. with_x_read ((at-syw q a b c FewThree).1 g), λ g. elim g [ with_x_read x ↦ (at-syw q a b c FewThree).0 x ])
           (either-falls number_did (not (choose_formed n q b (view n t q.parent) (view n t q.here) (view n t so)))
           (says_struck _ (denies-choose n t q b)) refl (λ g. rotated (parent_row zr (rank_at so)) (parent_is zr (rank_at so)) g))
 
@@ -326,7 +326,7 @@ module _ (n : ℕ) (t : List ℕ) (j : Job) (q : Path) where
             (λ g.
             committed-four _
             (λ k x.
-            let l = level-small n t q (λ i. ok (inr (inl i))) (λ i. k (inr (inr (not-level-with-its-parent i)))) in
+            let l = level-small n t q (λ i. ok (inr (inl i))) (λ i. k (inr (inr (not_level_with_its_parent i)))) in
             double-change n (view n t) j q (view n t q.parent) (view n t q.here) (rank_at so) (rank_at ys) (rank_at ws) wd l.0 l.1
             (around_of q a b c) (level_row xr (rank_at ys) (rank_at ws)) d (view n t ys) (level-is xr (rank_at ys) (rank_at ws))))))
             (λ e.
@@ -349,31 +349,31 @@ module _ (n : ℕ) (t : List ℕ) (j : Job) (q : Path) where
         FewFour s y w = TestFour (view n t) q a b c d y × NoSlotsNow (view n t) n q s y w
 
         unread_four : DoubleUnreadable (view n t) n q so ys ws → DoubleDamaged
-        unread_four x = record-unreadable ((at-syw q a b c (λ s y w. DoubleUnreadable (view n t) n q s y w)).1 x)
+        unread_four x = record_unreadable ((at-syw q a b c (λ s y w. DoubleUnreadable (view n t) n q s y w)).1 x)
 
         double-to : Chosen so ⊎ DoubleRest → DoubleDamaged
-        double-to (inl (inl x)) = unread_four (z-to-choose x)
-        double-to (inl (inr (inl x))) = unread_four (x-to-choose x)
-        double-to (inl (inr (inr x))) = unread_four (s-to-choose x)
-        double-to (inr (inl (w, x))) = unread_four (w-to-rotate w x)
-        double-to (inr (inr (inl (inl x)))) = unread_four (pz-to-commit x)
-        double-to (inr (inr (inl (inr (inl x))))) = unread_four (y-to-commit x)
-        double-to (inr (inr (inl (inr (inr x))))) = before-the-test (with-y-read ((at-syw q a b c BeforeFour).1 x))
-        double-to (inr (inr (inr x))) = after-the-test (with-y-read ((at-syw q a b c AfterFour).1 x))
+        double-to (inl (inl x)) = unread_four (z_to_choose x)
+        double-to (inl (inr (inl x))) = unread_four (x_to_choose x)
+        double-to (inl (inr (inr x))) = unread_four (s_to_choose x)
+        double-to (inr (inl (w, x))) = unread_four (w_to_rotate w x)
+        double-to (inr (inr (inl (inl x)))) = unread_four (pz_to_commit x)
+        double-to (inr (inr (inl (inr (inl x))))) = unread_four (y_to_commit x)
+        double-to (inr (inr (inl (inr (inr x))))) = before_the_test (with_y_read ((at-syw q a b c BeforeFour).1 x))
+        double-to (inr (inr (inr x))) = after_the_test (with_y_read ((at-syw q a b c AfterFour).1 x))
 
         double-unread : DoubleUnreadable (view n t) n q so ys ws → Chosen so ⊎ DoubleRest
-        double-unread (z-to-choose x) = inl (inl x)
-        double-unread (x-to-choose x) = inl (inr (inl x))
-        double-unread (s-to-choose x) = inl (inr (inr x))
-        double-unread (w-to-rotate w x) = inr (inl (w, x))
-        double-unread (pz-to-commit x) = inr (inr (inl (inl x)))
-        double-unread (y-to-commit x) = inr (inr (inl (inr (inl x))))
+        double-unread (z_to_choose x) = inl (inl x)
+        double-unread (x_to_choose x) = inl (inr (inl x))
+        double-unread (s_to_choose x) = inl (inr (inr x))
+        double-unread (w_to_rotate w x) = inr (inl (w, x))
+        double-unread (pz_to_commit x) = inr (inr (inl (inl x)))
+        double-unread (y_to_commit x) = inr (inr (inl (inr (inl x))))
 
         double-from : DoubleDamaged → Chosen so ⊎ DoubleRest
-        double-from (record-unreadable x) = double-unread ((at-syw q a b c (λ s y w. DoubleUnreadable (view n t) n q s y w)).0 x)
+        double-from (record_unreadable x) = double-unread ((at-syw q a b c (λ s y w. DoubleUnreadable (view n t) n q s y w)).0 x)
         double-from (arrival-outranks x) = elim x [ ]
-        double-from (before-the-test (with-y-read x)) = inr (inr (inl (inr (inr ((at-syw q a b c BeforeFour).0 x)))))
-        double-from (after-the-test (with-y-read x)) = inr (inr (inr ((at-syw q a b c AfterFour).0 x)))
+        double-from (before_the_test (with_y_read x)) = inr (inr (inl (inr (inr ((at-syw q a b c BeforeFour).0 x)))))
+        double-from (after_the_test (with_y_read x)) = inr (inr (inr ((at-syw q a b c AfterFour).0 x)))
 
         double-fours :
             (m : ℕ)
@@ -383,7 +383,7 @@ module _ (n : ℕ) (t : List ℕ) (j : Job) (q : Path) where
         unfolding double_step
         double-fours m =
             fours_as (double-to, double-from) (λ g. absurd g, λ g. elim g [ ]) (λ g. absurd g, λ g. elim g [ ])
-            (λ g. with-y-read ((at-syw q a b c FewFour).1 g), λ g. elim g [ with-y-read x ↦ (at-syw q a b c FewFour).0 x ])
+            (λ g. with_y_read ((at-syw q a b c FewFour).1 g), λ g. elim g [ with_y_read x ↦ (at-syw q a b c FewFour).0 x ])
             (either-falls number_did (not (choose_formed n q b (view n t q.parent) (view n t q.here) (view n t so)))
             (says_struck _ (denies-choose n t q b)) refl (λ g. doubled (parent_row zr (rank_at so)) (parent_is zr (rank_at so)) g))
 
@@ -401,12 +401,12 @@ module _ (n : ℕ) (t : List ℕ) (j : Job) (q : Path) where
       (WithoutRoom (view n t) n (Settling q f)) (TooFewSlots (view n t) n (Settling q f))
   unfolding settle_step read_grand read_parent
   settle-fours m SettleGrand =
-      read-alone {f = SettleGrand} m record-unreadable
-      (λ h. elim h [ record-unreadable x ↦ x | arrival-outranks x ↦ elim x [ ] | before-the-test x ↦ elim x [ ] | after-the-test x ↦ elim x [ ] ])
+      read-alone {f = SettleGrand} m record_unreadable
+      (λ h. elim h [ record_unreadable x ↦ x | arrival-outranks x ↦ elim x [ ] | before_the_test x ↦ elim x [ ] | after_the_test x ↦ elim x [ ] ])
       (λ x. elim x [ ]) (read-hurts _ _ _ _ (denies-unreadable n t q.grand))
   settle-fours m (SettleParent a) =
-      read-alone {f = SettleParent a} m record-unreadable
-      (λ h. elim h [ record-unreadable x ↦ x | arrival-outranks x ↦ elim x [ ] | before-the-test x ↦ elim x [ ] | after-the-test x ↦ elim x [ ] ])
+      read-alone {f = SettleParent a} m record_unreadable
+      (λ h. elim h [ record_unreadable x ↦ x | arrival-outranks x ↦ elim x [ ] | before_the_test x ↦ elim x [ ] | after_the_test x ↦ elim x [ ] ])
       (λ x. elim x [ ]) (read-hurts _ _ _ _ (denies-unreadable n t q.parent))
   settle-fours m (SettleChoose a b) = choose_fours a b m
   settle-fours m (SettleRotate a b c) = rotate-fours a b c m

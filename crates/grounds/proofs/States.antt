@@ -19,7 +19,7 @@ use Rattle.terms.specs.declared.State.{State}
 use Rattle.terms.specs.Task.{goal_of, goal_settles, work_settles, is_busy}
 use Rattle.machine.specs.Table.{length_fits}
 use Rattle.machine.specs.State.{task_at, one, settling, busy_tasks, count_open, sound, job_fits, may_price, ask_fits}
-use Rattle.grounds.specs.State.{Fits, JobOutOfRange, OutOfRange, number-or-price, look-up-with-price, take-out-with-price, TaskSettles, SomeTaskBusy, Settling, none_yet, one_more, no_more, CountsDamaged, m-above-1000000, u-plus-settling-above-m}
+use Rattle.grounds.specs.State.{Fits, JobOutOfRange, OutOfRange, number_or_price, look_up_with_price, take_out_with_price, TaskSettles, SomeTaskBusy, Settling, none_yet, one_more, no_more, CountsDamaged, m_above_1000000, u_plus_settling_above_m}
 use Rattle.grounds.proofs.Says.{Says, true_if, false_if, says_as, says_both, Denies, denies-not, denies-as, denies-both, says_eq, says_le}
 use Rattle.grounds.proofs.Records.{says_number, says_price}
 
@@ -59,14 +59,14 @@ denies-range o j =
     denies-as _ (denies-both _ _ (denies-job j) (denies-price o j))
     (λ h.
     elim h [
-      | inl x ↦ number-or-price x
-      | inr x ↦ elim x.0 [ inl e ↦ look-up-with-price e x.1 | inr e ↦ take-out-with-price e x.1 ]
+      | inl x ↦ number_or_price x
+      | inr x ↦ elim x.0 [ inl e ↦ look_up_with_price e x.1 | inr e ↦ take_out_with_price e x.1 ]
     ])
     (λ h.
     elim h [
-      | number-or-price x ↦ inl x
-      | look-up-with-price e x ↦ inr (inl e, x)
-      | take-out-with-price e x ↦ inr (inr e, x)
+      | number_or_price x ↦ inl x
+      | look_up_with_price e x ↦ inr (inl e, x)
+      | take_out_with_price e x ↦ inr (inr e, x)
     ])
 
 -- 12 and 13
@@ -162,9 +162,9 @@ module _ (st : State) where
   unfolding sound count_open
   denies-counts =
       denies-as _ (denies-both _ _ (denies-not _ (says_le st.m 1000000)) (denies-not _ (says_le (st.u + settling st.tasks 8) st.m)))
-      (λ h. elim h [ inl x ↦ m-above-1000000 (omega arith) | inr x ↦ u-plus-settling-above-m _ (settles_now 8) (omega arith) ])
+      (λ h. elim h [ inl x ↦ m_above_1000000 (omega arith) | inr x ↦ u_plus_settling_above_m _ (settles_now 8) (omega arith) ])
       (λ h.
       elim h [
-        | m-above-1000000 x ↦ inl (omega arith)
-        | u-plus-settling-above-m k r x ↦ inr (let e = settles_once 8 k r in omega arith)
+        | m_above_1000000 x ↦ inl (omega arith)
+        | u_plus_settling_above_m k r x ↦ inr (let e = settles_once 8 k r in omega arith)
       ])

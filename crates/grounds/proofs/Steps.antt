@@ -21,7 +21,7 @@ use Rattle.grounds.specs.Record.{FareNumber}
 use Rattle.grounds.specs.State.{JobOutOfRange, CountsDamaged}
 use Rattle.grounds.specs.Calls.{refuse}
 use Rattle.grounds.specs.Commits.{AtLimit, WithoutRoom, TooFewSlots}
-use Rattle.grounds.specs.Step.{PhaseDamaged, StepDamaged, counts, number-or-price-out-of-range, of-its-phase, step_refusals}
+use Rattle.grounds.specs.Step.{PhaseDamaged, StepDamaged, counts, number_or_price_out_of_range, of_its_phase, step_refusals}
 use Rattle.grounds.proofs.Says.{denies-both, says_struck, says_lt}
 use Rattle.grounds.proofs.Falls.{Falls, strikes, passes, ruled, look}
 use Rattle.grounds.proofs.Records.{says_number}
@@ -77,10 +77,10 @@ module _ (t : List ℕ) (st : State) (i : ℕ) where
   damaged_as j f = (
     λ h.
         elim h [
-          | inl x ↦ elim x [ inl y ↦ counts y | inr y ↦ number-or-price-out-of-range y ]
-          | inr x ↦ of-its-phase x
+          | inl x ↦ elim x [ inl y ↦ counts y | inr y ↦ number_or_price_out_of_range y ]
+          | inr x ↦ of_its_phase x
         ],
-    λ h. elim h [ counts x ↦ inl (inl x) | number-or-price-out-of-range x ↦ inl (inr x) | of-its-phase x ↦ inr x ],
+    λ h. elim h [ counts x ↦ inl (inl x) | number_or_price_out_of_range x ↦ inl (inr x) | of_its_phase x ↦ inr x ],
   )
 
   -- the refusals from 13 on

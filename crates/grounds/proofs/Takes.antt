@@ -19,8 +19,8 @@ use Rattle.machine.specs.TakeOut.{take_apart, take_leaf, take_grounds, take_test
 use Rattle.grounds.specs.Record.{NoLinks, LeadTo, Unreadable, ChildUnreadable}
 use Rattle.grounds.specs.Room.{Room}
 use Rattle.grounds.specs.Order.{Twice}
-use Rattle.grounds.specs.Commits.{of-a-take-out, at-the-commit-of-a-take-out, TakeTest, one-and-the-same, grandparent-doesnt-lead-on, parent-doesnt-lead-on, not-on-a-leaf-of-its-own-number, AtLimit, WithoutRoom, TooFewSlots}
-use Rattle.grounds.specs.Step.{PhaseDamaged, record-unreadable, arrival-outranks, before-the-test, after-the-test}
+use Rattle.grounds.specs.Commits.{of_a_take_out, at_the_commit_of_a_take_out, TakeTest, one_and_the_same, grandparent_doesnt_lead_on, parent_doesnt_lead_on, not_on_a_leaf_of_its_own_number, AtLimit, WithoutRoom, TooFewSlots}
+use Rattle.grounds.specs.Step.{PhaseDamaged, record_unreadable, arrival-outranks, before_the_test, after_the_test}
 use Rattle.grounds.proofs.Says.{Says, says_as, says_both, Denies, denies, denies-not, denies-as, denies-both, denies-then, says_eq}
 use Rattle.grounds.proofs.Falls.{serves, passes, look}
 use Rattle.grounds.proofs.Records.{says_leaf, says_still, says_leads, denies-unreadable, denies-child}
@@ -124,26 +124,26 @@ module _ (n : ℕ) (t : List ℕ) (j : Job) (q : Path) where
       (look number_did _ _ (says_no_room_1 (view n t) n) refl (λ h. passes (λ x. x) (serves (inr (inr (inr (inr (inr (inl refl))))))))))
 
   to-damaged : (a b c d : Links) → Before a b → PhaseDamaged (view n t) n j (TakingOut q (TakeCommit a b c d))
-  to-damaged a b c d (inl x) = record-unreadable (inl x)
-  to-damaged a b c d (inr (inl x)) = record-unreadable (inr (inl x))
-  to-damaged a b c d (inr (inr (inl x))) = record-unreadable (inr (inr (inl x)))
-  to-damaged a b c d (inr (inr (inr (inl x)))) = record-unreadable (inr (inr (inr x)))
-  to-damaged a b c d (inr (inr (inr (inr (inl x))))) = before-the-test (of-a-take-out (one-and-the-same x))
-  to-damaged a b c d (inr (inr (inr (inr (inr (inl x)))))) = before-the-test (of-a-take-out (grandparent-doesnt-lead-on x))
-  to-damaged a b c d (inr (inr (inr (inr (inr (inr (inl x))))))) = before-the-test (of-a-take-out (parent-doesnt-lead-on x))
-  to-damaged a b c d (inr (inr (inr (inr (inr (inr (inr x))))))) = before-the-test (of-a-take-out (not-on-a-leaf-of-its-own-number x))
+  to-damaged a b c d (inl x) = record_unreadable (inl x)
+  to-damaged a b c d (inr (inl x)) = record_unreadable (inr (inl x))
+  to-damaged a b c d (inr (inr (inl x))) = record_unreadable (inr (inr (inl x)))
+  to-damaged a b c d (inr (inr (inr (inl x)))) = record_unreadable (inr (inr (inr x)))
+  to-damaged a b c d (inr (inr (inr (inr (inl x))))) = before_the_test (of_a_take_out (one_and_the_same x))
+  to-damaged a b c d (inr (inr (inr (inr (inr (inl x)))))) = before_the_test (of_a_take_out (grandparent_doesnt_lead_on x))
+  to-damaged a b c d (inr (inr (inr (inr (inr (inr (inl x))))))) = before_the_test (of_a_take_out (parent_doesnt_lead_on x))
+  to-damaged a b c d (inr (inr (inr (inr (inr (inr (inr x))))))) = before_the_test (of_a_take_out (not_on_a_leaf_of_its_own_number x))
 
   from-damaged : (a b c d : Links) → PhaseDamaged (view n t) n j (TakingOut q (TakeCommit a b c d)) → Before a b
-  from-damaged a b c d (record-unreadable (inl x)) = inl x
-  from-damaged a b c d (record-unreadable (inr (inl x))) = inr (inl x)
-  from-damaged a b c d (record-unreadable (inr (inr (inl x)))) = inr (inr (inl x))
-  from-damaged a b c d (record-unreadable (inr (inr (inr x)))) = inr (inr (inr (inl x)))
+  from-damaged a b c d (record_unreadable (inl x)) = inl x
+  from-damaged a b c d (record_unreadable (inr (inl x))) = inr (inl x)
+  from-damaged a b c d (record_unreadable (inr (inr (inl x)))) = inr (inr (inl x))
+  from-damaged a b c d (record_unreadable (inr (inr (inr x)))) = inr (inr (inr (inl x)))
   from-damaged a b c d (arrival-outranks x) = elim x [ ]
-  from-damaged a b c d (before-the-test (of-a-take-out (one-and-the-same x))) = inr (inr (inr (inr (inl x))))
-  from-damaged a b c d (before-the-test (of-a-take-out (grandparent-doesnt-lead-on x))) = inr (inr (inr (inr (inr (inl x)))))
-  from-damaged a b c d (before-the-test (of-a-take-out (parent-doesnt-lead-on x))) = inr (inr (inr (inr (inr (inr (inl x))))))
-  from-damaged a b c d (before-the-test (of-a-take-out (not-on-a-leaf-of-its-own-number x))) = inr (inr (inr (inr (inr (inr (inr x))))))
-  from-damaged a b c d (after-the-test x) = elim x [ ]
+  from-damaged a b c d (before_the_test (of_a_take_out (one_and_the_same x))) = inr (inr (inr (inr (inl x))))
+  from-damaged a b c d (before_the_test (of_a_take_out (grandparent_doesnt_lead_on x))) = inr (inr (inr (inr (inr (inl x)))))
+  from-damaged a b c d (before_the_test (of_a_take_out (parent_doesnt_lead_on x))) = inr (inr (inr (inr (inr (inr (inl x))))))
+  from-damaged a b c d (before_the_test (of_a_take_out (not_on_a_leaf_of_its_own_number x))) = inr (inr (inr (inr (inr (inr (inr x))))))
+  from-damaged a b c d (after_the_test x) = elim x [ ]
 
   reads : {a : ℕ} {G : Type 0} {f : TakeStage} → (G → PhaseDamaged (view n t) n j (TakingOut q f)) → (PhaseDamaged (view n t) n j (TakingOut q f) → G)
       → ¬ (WithoutRoom (view n t) n (TakingOut q f)) → Hurts a G
@@ -158,25 +158,25 @@ module _ (n : ℕ) (t : List ℕ) (j : Job) (q : Path) where
       (TooFewSlots (view n t) n (TakingOut q f))
   unfolding take_step read_take_grand read_take_parent read_take_left read_take_right take_commit
   take_fours m TakeGrand =
-      reads {f = TakeGrand} record-unreadable
-      (λ h. elim h [ record-unreadable x ↦ x | arrival-outranks x ↦ elim x [ ] | before-the-test x ↦ elim x [ ] | after-the-test x ↦ elim x [ ] ])
+      reads {f = TakeGrand} record_unreadable
+      (λ h. elim h [ record_unreadable x ↦ x | arrival-outranks x ↦ elim x [ ] | before_the_test x ↦ elim x [ ] | after_the_test x ↦ elim x [ ] ])
       (λ x. elim x [ ]) (read-hurts _ _ _ _ (denies-unreadable n t q.grand)) m
   take_fours m (TakeParent a) =
-      reads {f = TakeParent a} record-unreadable
-      (λ h. elim h [ record-unreadable x ↦ x | arrival-outranks x ↦ elim x [ ] | before-the-test x ↦ elim x [ ] | after-the-test x ↦ elim x [ ] ])
+      reads {f = TakeParent a} record_unreadable
+      (λ h. elim h [ record_unreadable x ↦ x | arrival-outranks x ↦ elim x [ ] | before_the_test x ↦ elim x [ ] | after_the_test x ↦ elim x [ ] ])
       (λ x. elim x [ ]) (read-hurts _ _ _ _ (denies-unreadable n t q.parent)) m
   take_fours m (TakeLeft a b) =
-      reads {f = TakeLeft a b} record-unreadable
-      (λ h. elim h [ record-unreadable x ↦ x | arrival-outranks x ↦ elim x [ ] | before-the-test x ↦ elim x [ ] | after-the-test x ↦ elim x [ ] ])
+      reads {f = TakeLeft a b} record_unreadable
+      (λ h. elim h [ record_unreadable x ↦ x | arrival-outranks x ↦ elim x [ ] | before_the_test x ↦ elim x [ ] | after_the_test x ↦ elim x [ ] ])
       (λ x. elim x [ ]) (read-hurts _ _ _ _ (denies-child n t b.left)) m
   take_fours m (TakeRight a b c) =
-      reads {f = TakeRight a b c} record-unreadable
-      (λ h. elim h [ record-unreadable x ↦ x | arrival-outranks x ↦ elim x [ ] | before-the-test x ↦ elim x [ ] | after-the-test x ↦ elim x [ ] ])
+      reads {f = TakeRight a b c} record_unreadable
+      (λ h. elim h [ record_unreadable x ↦ x | arrival-outranks x ↦ elim x [ ] | before_the_test x ↦ elim x [ ] | after_the_test x ↦ elim x [ ] ])
       (λ x. elim x [ ]) (read-hurts _ _ _ _ (denies-child n t b.right)) m
   take_fours m (TakeCommit a b c d) =
       fours_as
       (λ h. elim h [ inl x ↦ to-damaged a b c d x | inr x ↦ absurd x.1 ], λ h. inl (from-damaged a b c d h))
       (λ h. absurd h.1, λ h. elim h [ ])
-      (λ h. at-the-commit-of-a-take-out h.0 h.1, λ h. elim h [ at-the-commit-of-a-take-out x y ↦ (x, y) ])
+      (λ h. at_the_commit_of_a_take_out h.0 h.1, λ h. elim h [ at_the_commit_of_a_take_out x y ↦ (x, y) ])
       (λ h. absurd h.1, λ h. elim h [ ])
       (commit-falls _ _ _ _ (denies-before a b) (says_test a b c d) (λ x y. change-falls _ _ _))

@@ -20,9 +20,9 @@ use Rattle.machine.specs.Choice.{if_b}
 use Rattle.machine.specs.Record.{well_formed, linked}
 use Rattle.machine.specs.Table.{View, view}
 use Rattle.machine.specs.Walk.{sought, at_leaf, serve_arrival, outranks, settle_arrival, arrival, walk_to, walk_from, walk_on}
-use Rattle.grounds.specs.Record.{FareNumber, WellFormed, Unreadable, not-well-formed, ChildUnreadable, missing, there-but}
-use Rattle.grounds.specs.Reads.{SoughtLink, goes_left, otherwise-right, the-entry, its-left, the-record-left, the-record-arrived-at, ArrivalOutranks, from-the-entry, on-the-walk}
-use Rattle.grounds.specs.Step.{PhaseDamaged, record-unreadable, arrival-outranks, before-the-test, after-the-test}
+use Rattle.grounds.specs.Record.{FareNumber, WellFormed, Unreadable, not_well_formed, ChildUnreadable, missing, there-but}
+use Rattle.grounds.specs.Reads.{SoughtLink, goes_left, otherwise-right, the_entry, its_left, the_record_left, the_record_arrived_at, ArrivalOutranks, from_the_entry, on_the_walk}
+use Rattle.grounds.specs.Step.{PhaseDamaged, record_unreadable, arrival-outranks, before_the_test, after_the_test}
 use Rattle.grounds.proofs.Says.{says_struck, says_eq, says_lt}
 use Rattle.grounds.proofs.Falls.{Falls, serves, strikes, passes, if_falls}
 use Rattle.grounds.proofs.Records.{says_formed, denies-unreadable, denies-child}
@@ -94,17 +94,17 @@ module _ (j : Job) where
           where
             top : WellFormed n 0 (view n t 0) → j.number < (view n t 0).number
             top w = elim w.shape [ inl x ↦ (let z = x.1.sentinel-number in omega arith) | inr x ↦ absurd (x.0 refl) ]
-        go false e = absurd (h (not-well-formed ((says_formed _ n 0).fails e)))
+        go false e = absurd (h (not_well_formed ((says_formed _ n 0).fails e)))
 
 over-start : (v : View) (j : Job) (g : Goal) → (Over g (v 0) (v (v 0).left)) ↔ ArrivalOutranks v j (Start g)
 over-start v j (Serve o) = (λ x. absurd x, λ x. elim x [ ])
-over-start v j Settle = (λ x. from-the-entry x, λ x. elim x [ from-the-entry h ↦ h ])
+over-start v j Settle = (λ x. from_the_entry x, λ x. elim x [ from_the_entry h ↦ h ])
 
 over-walk : (v : View) (j : Job) (g : Goal) (q : Path) → (Over g (v q.here) (v (sought j.number (v q.here)))) ↔ ArrivalOutranks v j (Walk g q)
 over-walk v j (Serve o) q = (λ x. absurd x, λ x. elim x [ ])
 over-walk v j Settle q = (
-  λ x. on-the-walk (sought j.number (v q.here)) (is_sought j.number (v q.here)) x,
-  λ x. elim x [ on-the-walk s l h ↦ rw (sought-once j.number (v q.here) s l) at h ],
+  λ x. on_the_walk (sought j.number (v q.here)) (is_sought j.number (v q.here)) x,
+  λ x. elim x [ on_the_walk s l h ↦ rw (sought-once j.number (v q.here) s l) at h ],
 )
 
 module _ (n : ℕ) (t : List ℕ) (j : Job) (g : Goal) where
@@ -114,15 +114,15 @@ module _ (n : ℕ) (t : List ℕ) (j : Job) (g : Goal) where
       falls-as
       (λ h.
       elim h [
-        | inl x ↦ record-unreadable (the-entry x)
-        | inr y ↦ elim y [ inl x ↦ record-unreadable (its-left x) | inr x ↦ arrival-outranks ((over-start (view n t) j g).0 x) ]
+        | inl x ↦ record_unreadable (the_entry x)
+        | inr y ↦ elim y [ inl x ↦ record_unreadable (its_left x) | inr x ↦ arrival-outranks ((over-start (view n t) j g).0 x) ]
       ])
       (λ h.
       elim h [
-        | record-unreadable x ↦ elim x [ the-entry y ↦ inl y | its-left y ↦ inr (inl y) ]
+        | record_unreadable x ↦ elim x [ the_entry y ↦ inl y | its_left y ↦ inr (inl y) ]
         | arrival-outranks x ↦ inr (inr ((over-start (view n t) j g).1 x))
-        | before-the-test x ↦ elim x [ ]
-        | after-the-test x ↦ elim x [ ]
+        | before_the_test x ↦ elim x [ ]
+        | after_the_test x ↦ elim x [ ]
       ])
       (from-hurts j n t g no_grand 0 _ (entry-left j n t g k))
 
@@ -133,26 +133,26 @@ module _ (n : ℕ) (t : List ℕ) (j : Job) (g : Goal) where
       falls-as
       (λ h.
       elim h [
-        | inl e ↦ record-unreadable (the-record-left (missing e))
+        | inl e ↦ record_unreadable (the_record_left (missing e))
         | inr y ↦
             elim y [
-              | inl x ↦ record-unreadable (the-record-left (there-but x))
+              | inl x ↦ record_unreadable (the_record_left (there-but x))
               | inr z ↦
                   elim z [
-                    | inl x ↦ record-unreadable (the-record-arrived-at _ (is_sought j.number (view n t q.here)) x)
+                    | inl x ↦ record_unreadable (the_record_arrived_at _ (is_sought j.number (view n t q.here)) x)
                     | inr x ↦ arrival-outranks ((over-walk (view n t) j g q).0 x)
                   ]
             ]
       ])
       (λ h.
       elim h [
-        | record-unreadable x ↦
+        | record_unreadable x ↦
             elim x [
-              | the-record-left y ↦ elim y [ missing e ↦ inl e | there-but u ↦ inr (inl u) ]
-              | the-record-arrived-at s l u ↦ inr (inr (inl (rw (sought-once j.number (view n t q.here) s l) at u)))
+              | the_record_left y ↦ elim y [ missing e ↦ inl e | there-but u ↦ inr (inl u) ]
+              | the_record_arrived_at s l u ↦ inr (inr (inl (rw (sought-once j.number (view n t q.here) s l) at u)))
             ]
         | arrival-outranks x ↦ inr (inr (inr ((over-walk (view n t) j g q).1 x)))
-        | before-the-test x ↦ elim x [ ]
-        | after-the-test x ↦ elim x [ ]
+        | before_the_test x ↦ elim x [ ]
+        | after_the_test x ↦ elim x [ ]
       ])
       (either-falls number_turn (eqb q.here 0) (says_eq q.here 0) refl (λ h. from-hurts j n t g q.parent q.here _ (λ i. refl)))

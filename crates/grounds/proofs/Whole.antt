@@ -19,7 +19,7 @@ use Rattle.grounds.specs.Order.{Refusal, Ruled}
 use Rattle.grounds.specs.State.{CountsDamaged}
 use Rattle.grounds.specs.Calls.{refuse}
 use Rattle.grounds.specs.Ways.{ReachDamaged, Fares, RoomLentShort}
-use Rattle.grounds.specs.Whole.{WholeDamaged, counts, of-what-the-entry-reaches, tidy_refusals, figures_refusals, list_refusals}
+use Rattle.grounds.specs.Whole.{WholeDamaged, counts, of_what_the_entry_reaches, tidy_refusals, figures_refusals, list_refusals}
 use Rattle.grounds.proofs.Says.{Says, says_as, says_struck, says_lt}
 use Rattle.grounds.proofs.Falls.{Falls, serves, strikes, passes, if_falls, ruled, look}
 use Rattle.grounds.proofs.States.{denies-some_busy, denies-counts}
@@ -40,8 +40,8 @@ module _ (t : List ℕ) (st : State) where
       (λ h. strikes (counts ((says_struck _ (denies-counts st)).holds h)) e) (λ h. on f ((says_struck _ (denies-counts st)).fails h))
     where
       on : {a : ℕ} → Falls (0 ∷ []) a (refuse 17 Reach ∷ rs) → ¬ (CountsDamaged st) → Falls (0 ∷ []) a (refuse 17 (WholeDamaged t st) ∷ rs)
-      on (strikes g q) c = strikes (of-what-the-entry-reaches g) q
-      on (passes g r) c = passes {r = refuse 17 (WholeDamaged t st)} (λ w. elim w [ counts k ↦ c k | of-what-the-entry-reaches k ↦ g k ]) r
+      on (strikes g q) c = strikes (of_what_the_entry_reaches g) q
+      on (passes g r) c = passes {r = refuse 17 (WholeDamaged t st)} (λ w. elim w [ counts k ↦ c k | of_what_the_entry_reaches k ↦ g k ]) r
 
   tidied : (r : Reached) → Verdict (slots t) t r → Falls (0 ∷ []) (number_left (tidy_reached t st r)) (refuse 17 Reach ∷ [])
   unfolding tidy_reached

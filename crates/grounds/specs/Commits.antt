@@ -18,37 +18,37 @@ use Rattle.grounds.specs.Reads.{DoubleNow}
 -- 17, "Commit only, before its test: two of the records read are one and the same, the noted links of a remembered record that was
 -- read don't lead to the next one, a put-in doesn't stand on a leaf of another number": a are the parent's noted links
 pub data PutBefore (v : View) (j : Job) (q : Path) (a : Links) : Type 0 where
-  one-and-the-same : Twice (q.parent ∷ q.here ∷ []) → PutBefore v j q a
-  parent-doesnt-lead-on : ¬ (LeadTo a q.here) → PutBefore v j q a
-  not-on-a-leaf-of-another-number : ¬ (NoLinks (v q.here) × ((v q.here).number ≢ j.number)) → PutBefore v j q a
+  one_and_the_same : Twice (q.parent ∷ q.here ∷ []) → PutBefore v j q a
+  parent_doesnt_lead_on : ¬ (LeadTo a q.here) → PutBefore v j q a
+  not_on_a_leaf_of_another_number : ¬ (NoLinks (v q.here) × ((v q.here).number ≢ j.number)) → PutBefore v j q a
 
 -- ".. a take-out doesn't stand on a leaf of its own number": a are the grandparent's noted links, b the parent's
 pub data TakeBefore (v : View) (j : Job) (q : Path) (a b : Links) : Type 0 where
-  one-and-the-same : Twice (q.grand ∷ q.parent ∷ b.left ∷ b.right ∷ []) → TakeBefore v j q a b
-  grandparent-doesnt-lead-on : ¬ (LeadTo a q.parent) → TakeBefore v j q a b
-  parent-doesnt-lead-on : ¬ (LeadTo b q.here) → TakeBefore v j q a b
-  not-on-a-leaf-of-its-own-number : ¬ (NoLinks (v q.here) × ((v q.here).number ≡ j.number)) → TakeBefore v j q a b
+  one_and_the_same : Twice (q.grand ∷ q.parent ∷ b.left ∷ b.right ∷ []) → TakeBefore v j q a b
+  grandparent_doesnt_lead_on : ¬ (LeadTo a q.parent) → TakeBefore v j q a b
+  parent_doesnt_lead_on : ¬ (LeadTo b q.here) → TakeBefore v j q a b
+  not_on_a_leaf_of_its_own_number : ¬ (NoLinks (v q.here) × ((v q.here).number ≡ j.number)) → TakeBefore v j q a b
 
 -- ".. or the record being settled isn't level with its parent": a are pz's noted links, b those of z
 pub data SettleBefore (v : View) (q : Path) (a b : Links) (read : List ℕ) : Type 0 where
-  one-and-the-same : Twice read → SettleBefore v q a b read
-  pz-doesnt-lead-on : ¬ (LeadTo a q.parent) → SettleBefore v q a b read
-  z-doesnt-lead-on : ¬ (LeadTo b q.here) → SettleBefore v q a b read
-  not-level-with-its-parent : ¬ (Level (v q.parent) (v q.here)) → SettleBefore v q a b read
+  one_and_the_same : Twice read → SettleBefore v q a b read
+  pz_doesnt_lead_on : ¬ (LeadTo a q.parent) → SettleBefore v q a b read
+  z_doesnt_lead_on : ¬ (LeadTo b q.here) → SettleBefore v q a b read
+  not_level_with_its_parent : ¬ (Level (v q.parent) (v q.here)) → SettleBefore v q a b read
 
 -- the grounds before the test, of the steps that commit
 pub data BeforeTest (v : View) (j : Job) : Phase → Type 0 where
-  of-a-put-in : {q : Path} {a b : Links} → PutBefore v j q a → BeforeTest v j (PuttingIn q (PutCommit a b))
-  of-a-take-out : {q : Path} {a b c d : Links} → TakeBefore v j q a b → BeforeTest v j (TakingOut q (TakeCommit a b c d))
-  with-pz-and-z-read :
+  of_a_put_in : {q : Path} {a b : Links} → PutBefore v j q a → BeforeTest v j (PuttingIn q (PutCommit a b))
+  of_a_take_out : {q : Path} {a b c d : Links} → TakeBefore v j q a b → BeforeTest v j (TakingOut q (TakeCommit a b c d))
+  with_pz_and_z_read :
       {q : Path} {a b : Links}
       → LetS b q.here (λ s. (¬ (Wide (v q.parent).rank (v s).rank)) × SettleBefore v q a b (q.grand ∷ q.parent ∷ []))
       → BeforeTest v j (Settling q (SettleChoose a b))
-  with-x-read :
+  with_x_read :
       {q : Path} {a b c : Links}
       → LetSYW b c q.here (λ s y w. (¬ (DoubleNow v q s y w)) × SettleBefore v q a b (q.grand ∷ q.parent ∷ q.here ∷ []))
       → BeforeTest v j (Settling q (SettleRotate a b c))
-  with-y-read :
+  with_y_read :
       {q : Path} {a b c d : Links} → LetSYW b c q.here (λ s y w. SettleBefore v q a b (q.grand ∷ q.parent ∷ q.here ∷ y ∷ []))
       → BeforeTest v j (Settling q (SettleDouble a b c d))
 
@@ -78,34 +78,34 @@ NoSlotsNow v n q s y w =
 
 -- 17, "Settling commit only, after its test has held"
 pub data AfterTest (v : View) : Phase → Type 0 where
-  with-pz-and-z-read :
+  with_pz_and_z_read :
       {q : Path} {a b : Links} → LetS b q.here (λ s. TestTwo v q a b × PromoteDamaged (v q.parent).rank (v s).rank)
       → AfterTest v (Settling q (SettleChoose a b))
-  with-x-read :
+  with_x_read :
       {q : Path} {a b c : Links} → LetSYW b c q.here (λ s y w. (¬ (DoubleNow v q s y w)) × TestThree v q a b c × RowDamagedNow v q s y w)
       → AfterTest v (Settling q (SettleRotate a b c))
-  with-y-read :
+  with_y_read :
       {q : Path} {a b c d : Links} → LetSYW b c q.here (λ s y w. TestFour v q a b c d y × RowDamagedNow v q s y w)
       → AfterTest v (Settling q (SettleDouble a b c d))
 
 -- 16 "1,000,000 put-ins already committed": "Limit and room are looked at only after this test."
 pub data AtLimit (v : View) (m : ℕ) : Phase → Type 0 where
-  at-the-commit-of-a-put-in : {q : Path} {a b : Links} → PutTest v q a b → 1000000 ≤ m → AtLimit v m (PuttingIn q (PutCommit a b))
+  at_the_commit_of_a_put_in : {q : Path} {a b : Links} → PutTest v q a b → 1000000 ≤ m → AtLimit v m (PuttingIn q (PutCommit a b))
 
 -- 15 "no room, at the commit of a put-in or take-out": "Put-in (3 slots)", "Take-out (1 slot)"
 pub data WithoutRoom (v : View) (n : ℕ) : Phase → Type 0 where
-  at-the-commit-of-a-put-in : {q : Path} {a b : Links} → PutTest v q a b → ¬ (Room v n 3) → WithoutRoom v n (PuttingIn q (PutCommit a b))
-  at-the-commit-of-a-take-out :
+  at_the_commit_of_a_put_in : {q : Path} {a b : Links} → PutTest v q a b → ¬ (Room v n 3) → WithoutRoom v n (PuttingIn q (PutCommit a b))
+  at_the_commit_of_a_take_out :
       {q : Path} {a b c d : Links} → TakeTest v q a b c d → ¬ (Room v n 1) → WithoutRoom v n (TakingOut q (TakeCommit a b c d))
 
 -- "Too few slots at a settling commit gives 6.": fewer than the row takes
 pub data TooFewSlots (v : View) (n : ℕ) : Phase → Type 0 where
-  with-pz-and-z-read :
+  with_pz_and_z_read :
       {q : Path} {a b : Links} → LetS b q.here (λ s. TestTwo v q a b × Close (v q.parent).rank (v s).rank × (¬ (Room v n 1)))
       → TooFewSlots v n (Settling q (SettleChoose a b))
-  with-x-read :
+  with_x_read :
       {q : Path} {a b c : Links} → LetSYW b c q.here (λ s y w. (¬ (DoubleNow v q s y w)) × TestThree v q a b c × NoSlotsNow v n q s y w)
       → TooFewSlots v n (Settling q (SettleRotate a b c))
-  with-y-read :
+  with_y_read :
       {q : Path} {a b c d : Links} → LetSYW b c q.here (λ s y w. TestFour v q a b c d y × NoSlotsNow v n q s y w)
       → TooFewSlots v n (Settling q (SettleDouble a b c d))

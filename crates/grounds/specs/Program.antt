@@ -20,10 +20,10 @@ price_in b = get_or b 8 0 + 256 * get_or b 9 0 + 65536 * get_or b 10 0 + 1677721
 -- 19: "operation (1 look up, 2 put in, 3 take out, 4 step, 5 abandon, 6 tidy)"; "Count is 1 to 65,535 for operation 4; every unused
 -- field is zero (4 to 6 use no fare number or price, 6 no task); else, or for a short last record, 19." Two bytes hold no more than 65,535
 pub data BadRecord (b : List ℕ) : Type 0 where
-  a-short-last-record : length b < 12 → BadRecord b
-  no-such-operation : (operation_in b ≡ 0) ⊎ (6 < operation_in b) → BadRecord b
-  no-count-to-step : operation_in b ≡ 4 → count_in b ≡ 0 → BadRecord b
-  an-unused-count : operation_in b ≢ 4 → count_in b ≢ 0 → BadRecord b
-  an-unused-number : 4 ≤ operation_in b → number_in b ≢ 0 → BadRecord b
-  an-unused-price : 4 ≤ operation_in b → price_in b ≢ 0 → BadRecord b
-  an-unused-task : operation_in b ≡ 6 → task_in b ≢ 0 → BadRecord b
+  a_short_last_record : length b < 12 → BadRecord b
+  no_such_operation : (operation_in b ≡ 0) ⊎ (6 < operation_in b) → BadRecord b
+  no_count_to_step : operation_in b ≡ 4 → count_in b ≡ 0 → BadRecord b
+  an_unused_count : operation_in b ≢ 4 → count_in b ≢ 0 → BadRecord b
+  an_unused_number : 4 ≤ operation_in b → number_in b ≢ 0 → BadRecord b
+  an_unused_price : 4 ≤ operation_in b → price_in b ≢ 0 → BadRecord b
+  an_unused_task : operation_in b ≡ 6 → task_in b ≢ 0 → BadRecord b

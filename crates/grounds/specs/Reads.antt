@@ -24,13 +24,13 @@ pub data SoughtLink (k : ℕ) (r : Rec) : ℕ → Type 0 where
 -- 17: "a record the step must read is missing, outside the table or not well formed".
 -- "Each step reads one link: first the entry's left": the entry and the record arrived at
 pub data StartUnreadable (v : View) (n : ℕ) : Type 0 where
-  the-entry : Unreadable v n 0 → StartUnreadable v n
-  its-left : ChildUnreadable v n (v 0).left → StartUnreadable v n
+  the_entry : Unreadable v n 0 → StartUnreadable v n
+  its_left : ChildUnreadable v n (v 0).left → StartUnreadable v n
 
 -- "then the link on the sought side": the record left, which a link has led to, and the one arrived at
 pub data WalkUnreadable (v : View) (n k here : ℕ) : Type 0 where
-  the-record-left : ChildUnreadable v n here → WalkUnreadable v n k here
-  the-record-arrived-at : (s : ℕ) → SoughtLink k (v here) s → ChildUnreadable v n s → WalkUnreadable v n k here
+  the_record_left : ChildUnreadable v n here → WalkUnreadable v n k here
+  the_record_arrived_at : (s : ℕ) → SoughtLink k (v here) s → ChildUnreadable v n s → WalkUnreadable v n k here
 
 -- "Put-in: parent, leaf.", one a step; its commit reads both again
 abbrev pub PutUnreadable : View → ℕ → Path → PutStage → Type 0
@@ -49,10 +49,10 @@ TakeUnreadable v n q (TakeCommit a b c d) =
 
 -- "each step chooses by the links noted so far": pz and z are noted. It chooses by z, s and x; a commit reads pz too
 pub data ChooseUnreadable (v : View) (n : ℕ) (q : Path) (s : ℕ) : Type 0 where
-  z-to-choose : Unreadable v n q.parent → ChooseUnreadable v n q s
-  x-to-choose : ChildUnreadable v n q.here → ChooseUnreadable v n q s
-  s-to-choose : ChildUnreadable v n s → ChooseUnreadable v n q s
-  pz-to-commit : ¬ (Wide (v q.parent).rank (v s).rank) → Unreadable v n q.grand → ChooseUnreadable v n q s
+  z_to_choose : Unreadable v n q.parent → ChooseUnreadable v n q s
+  x_to_choose : ChildUnreadable v n q.here → ChooseUnreadable v n q s
+  s_to_choose : ChildUnreadable v n s → ChooseUnreadable v n q s
+  pz_to_commit : ¬ (Wide (v q.parent).rank (v s).rank) → Unreadable v n q.grand → ChooseUnreadable v n q s
 
 -- whether the ranks now ask for a double rotation
 abbrev pub DoubleNow : View → Path → ℕ → ℕ → ℕ → Type 0
@@ -60,21 +60,21 @@ DoubleNow v q s y w = Double (v q.parent).rank (v q.here).rank (v s).rank (v y).
 
 -- x is noted too: for a rotation also y and w; unless y is to be read, the step commits
 pub data RotateUnreadable (v : View) (n : ℕ) (q : Path) (s y w : ℕ) : Type 0 where
-  z-to-choose : Unreadable v n q.parent → RotateUnreadable v n q s y w
-  x-to-choose : ChildUnreadable v n q.here → RotateUnreadable v n q s y w
-  s-to-choose : ChildUnreadable v n s → RotateUnreadable v n q s y w
-  y-to-rotate : Wide (v q.parent).rank (v s).rank → ChildUnreadable v n y → RotateUnreadable v n q s y w
-  w-to-rotate : Wide (v q.parent).rank (v s).rank → ChildUnreadable v n w → RotateUnreadable v n q s y w
-  pz-to-commit : ¬ (DoubleNow v q s y w) → Unreadable v n q.grand → RotateUnreadable v n q s y w
+  z_to_choose : Unreadable v n q.parent → RotateUnreadable v n q s y w
+  x_to_choose : ChildUnreadable v n q.here → RotateUnreadable v n q s y w
+  s_to_choose : ChildUnreadable v n s → RotateUnreadable v n q s y w
+  y_to_rotate : Wide (v q.parent).rank (v s).rank → ChildUnreadable v n y → RotateUnreadable v n q s y w
+  w_to_rotate : Wide (v q.parent).rank (v s).rank → ChildUnreadable v n w → RotateUnreadable v n q s y w
+  pz_to_commit : ¬ (DoubleNow v q s y w) → Unreadable v n q.grand → RotateUnreadable v n q s y w
 
 -- y is noted too: the step commits
 pub data DoubleUnreadable (v : View) (n : ℕ) (q : Path) (s y w : ℕ) : Type 0 where
-  z-to-choose : Unreadable v n q.parent → DoubleUnreadable v n q s y w
-  x-to-choose : ChildUnreadable v n q.here → DoubleUnreadable v n q s y w
-  s-to-choose : ChildUnreadable v n s → DoubleUnreadable v n q s y w
-  w-to-rotate : Wide (v q.parent).rank (v s).rank → ChildUnreadable v n w → DoubleUnreadable v n q s y w
-  pz-to-commit : Unreadable v n q.grand → DoubleUnreadable v n q s y w
-  y-to-commit : ChildUnreadable v n y → DoubleUnreadable v n q s y w
+  z_to_choose : Unreadable v n q.parent → DoubleUnreadable v n q s y w
+  x_to_choose : ChildUnreadable v n q.here → DoubleUnreadable v n q s y w
+  s_to_choose : ChildUnreadable v n s → DoubleUnreadable v n q s y w
+  w_to_rotate : Wide (v q.parent).rank (v s).rank → ChildUnreadable v n w → DoubleUnreadable v n q s y w
+  pz_to_commit : Unreadable v n q.grand → DoubleUnreadable v n q s y w
+  y_to_commit : ChildUnreadable v n y → DoubleUnreadable v n q s y w
 
 -- "it reads pz (grandparent), z (parent) and, for a rotation, x (the level record), each a step in this order, and commits"
 abbrev pub SettleUnreadable : View → ℕ → Path → SettleStage → Type 0
@@ -94,6 +94,6 @@ RecordUnreadable v n j (Settling q f) = SettleUnreadable v n q f
 
 -- 17: "on a settling walk, the record arrived at outranks its parent"
 pub data ArrivalOutranks (v : View) (j : Job) : Phase → Type 0 where
-  from-the-entry : (v 0).rank < (v (v 0).left).rank → ArrivalOutranks v j (Start Settle)
-  on-the-walk :
+  from_the_entry : (v 0).rank < (v (v 0).left).rank → ArrivalOutranks v j (Start Settle)
+  on_the_walk :
       {q : Path} (s : ℕ) → SoughtLink j.number (v q.here) s → (v q.here).rank < (v s).rank → ArrivalOutranks v j (Walk Settle q)

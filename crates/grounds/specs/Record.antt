@@ -34,19 +34,19 @@ pub record Inner (n : ℕ) (r : Rec) : Type 0 where
 
 -- "Slot 0 alone has instead a left link, no right one and sentinel marks."
 pub record Entry (n : ℕ) (r : Rec) : Type 0 where
-  pub a-left-link : Link n r.left
-  pub no-right-one : r.right ≡ 0
+  pub a_left_link : Link n r.left
+  pub no_right_one : r.right ≡ 0
   pub sentinel-number : r.number ≡ 4294967295
   pub sentinel-rank : r.rank ≡ 255
 
 -- "A record is well formed if its state is 1 or 2, its number, price and rank are as above, number and rank are sentinel marks
 -- together or not at all, and it is a leaf .. or inner .."
 pub record WellFormed (n s : ℕ) (r : Rec) : Type 0 where
-  pub state-1-or-2 : (r.state ≡ 1) ⊎ (r.state ≡ 2)
-  pub number-as-above : FareNumber r.number ⊎ (r.number ≡ 4294967295)
-  pub price-as-above : Price r.price
+  pub state_1_or_2 : (r.state ≡ 1) ⊎ (r.state ≡ 2)
+  pub number_as_above : FareNumber r.number ⊎ (r.number ≡ 4294967295)
+  pub price_as_above : Price r.price
   pub sentinel-price : r.number ≡ 4294967295 → r.price ≡ 0
-  pub together-or-not-at-all : (r.number ≡ 4294967295) ↔ (r.rank ≡ 255)
+  pub together_or_not_at_all : (r.number ≡ 4294967295) ↔ (r.rank ≡ 255)
   pub shape : ((s ≡ 0) × Entry n r) ⊎ ((s ≢ 0) × (Leaf r ⊎ Inner n r))
 
 -- "Sentinels carry number 4,294,967,295, rank 255 and price 0."
@@ -64,13 +64,13 @@ LeadTo l s = (s ≢ 0) × ((l.left ≡ s) ⊎ (l.right ≡ s))
 -- "still in state 1 with both links as noted"
 pub record AsNoted (r : Rec) (l : Links) : Type 0 where
   pub state-1 : r.state ≡ 1
-  pub left-as-noted : r.left ≡ l.left
-  pub right-as-noted : r.right ≡ l.right
+  pub left_as_noted : r.left ≡ l.left
+  pub right_as_noted : r.right ≡ l.right
 
 -- a remembered record is ".. outside the table or not well formed"; a grandparent that is not there stands outside every table
 pub data Unreadable (v : View) (n s : ℕ) : Type 0 where
-  outside-the-table : n ≤ s → Unreadable v n s
-  not-well-formed : ¬ (WellFormed n s (v s)) → Unreadable v n s
+  outside_the_table : n ≤ s → Unreadable v n s
+  not_well_formed : ¬ (WellFormed n s (v s)) → Unreadable v n s
 
 -- a record that a link leads to is "missing" too where the link is 0: "slot 0 is the entry and is nobody's child"
 pub data ChildUnreadable (v : View) (n s : ℕ) : Type 0 where

@@ -29,9 +29,9 @@ JobOutOfRange j = (¬ (FareNumber j.number)) ⊎ (¬ (Price j.price))
 
 -- 11: "fare number or price out of range"; "A look up or take out with a price other than 0 gives 11."
 pub data OutOfRange (o : Operation) (j : Job) : Type 0 where
-  number-or-price : JobOutOfRange j → OutOfRange o j
-  look-up-with-price : o ≡ LookUp → j.price ≢ 0 → OutOfRange o j
-  take-out-with-price : o ≡ TakeOut → j.price ≢ 0 → OutOfRange o j
+  number_or_price : JobOutOfRange j → OutOfRange o j
+  look_up_with_price : o ≡ LookUp → j.price ≢ 0 → OutOfRange o j
+  take_out_with_price : o ≡ TakeOut → j.price ≢ 0 → OutOfRange o j
 
 -- task i is busy: it has an operation under way
 abbrev pub TaskBusy : State → ℕ → Type 0
@@ -57,5 +57,5 @@ pub data Settling (st : State) : ℕ → ℕ → Type 0 where
 
 -- 17, "Every call but reset: m is above 1,000,000, or u plus the settling tasks is above m."
 pub data CountsDamaged (st : State) : Type 0 where
-  m-above-1000000 : 1000000 < st.m → CountsDamaged st
-  u-plus-settling-above-m : (k : ℕ) → Settling st 8 k → st.m < st.u + k → CountsDamaged st
+  m_above_1000000 : 1000000 < st.m → CountsDamaged st
+  u_plus_settling_above_m : (k : ℕ) → Settling st 8 k → st.m < st.u + k → CountsDamaged st

@@ -14,16 +14,16 @@ use Rattle.grounds.specs.Commits.{BeforeTest, AfterTest, AtLimit, WithoutRoom, T
 
 -- 17 of the records that a step reads
 pub data PhaseDamaged (v : View) (n : ℕ) (j : Job) (f : Phase) : Type 0 where
-  record-unreadable : RecordUnreadable v n j f → PhaseDamaged v n j f
+  record_unreadable : RecordUnreadable v n j f → PhaseDamaged v n j f
   arrival-outranks : ArrivalOutranks v j f → PhaseDamaged v n j f
-  before-the-test : BeforeTest v j f → PhaseDamaged v n j f
-  after-the-test : AfterTest v f → PhaseDamaged v n j f
+  before_the_test : BeforeTest v j f → PhaseDamaged v n j f
+  after_the_test : AfterTest v f → PhaseDamaged v n j f
 
 -- 17 of a step
 pub data StepDamaged (t : List ℕ) (st : State) (j : Job) (f : Phase) : Type 0 where
   counts : CountsDamaged st → StepDamaged t st j f
-  number-or-price-out-of-range : JobOutOfRange j → StepDamaged t st j f
-  of-its-phase : PhaseDamaged (view (slots t) t) (slots t) j f → StepDamaged t st j f
+  number_or_price_out_of_range : JobOutOfRange j → StepDamaged t st j f
+  of_its_phase : PhaseDamaged (view (slots t) t) (slots t) j f → StepDamaged t st j f
 
 -- a ground of the task's own number, price and phase
 abbrev pub Of : State → ℕ → (Job → Phase → Type 0) → Type 0

@@ -21,8 +21,8 @@ Goes v a (side ∷ w) b = (link_on side (v a) ≢ 0) × Goes v (link_on side (v 
 
 -- 17, "Tidy, figures and list: a record reachable from the entry isn't well formed, is in state 2 or is reached twice."
 pub data ReachDamaged (v : View) (n : ℕ) : Type 0 where
-  not-well-formed : (w : Way) (s : ℕ) → Goes v 0 w s → ¬ (WellFormed n s (v s)) → ReachDamaged v n
-  in-state-2 : (w : Way) (s : ℕ) → Goes v 0 w s → (v s).state ≡ 2 → ReachDamaged v n
+  not_well_formed : (w : Way) (s : ℕ) → Goes v 0 w s → ¬ (WellFormed n s (v s)) → ReachDamaged v n
+  in_state_2 : (w : Way) (s : ℕ) → Goes v 0 w s → (v s).state ≡ 2 → ReachDamaged v n
   reached-twice : (w u : Way) (s : ℕ) → w ≢ u → Goes v 0 w s → Goes v 0 u s → ReachDamaged v n
 
 -- a fare is a leaf that isn't a sentinel
@@ -31,7 +31,7 @@ Fare r = NoLinks r × (¬ (Sentinel r))
 
 -- the slots of the fares that the entry reaches, each once
 pub record Fares (v : View) (fs : List ℕ) : Type 0 where
-  pub each-is-one : (s : ℕ) → Among fs s → (w : Way) × Goes v 0 w s × Fare (v s)
+  pub each_is_one : (s : ℕ) → Among fs s → (w : Way) × Goes v 0 w s × Fare (v s)
   pub each_is_there : (w : Way) (s : ℕ) → Goes v 0 w s → Fare (v s) → Among fs s
   pub none-twice : ¬ (Twice fs)
 

@@ -10,7 +10,7 @@ use Rattle.grounds.specs.Ways.{ReachDamaged, RoomLentShort}
 -- 17 of tidy, figures and list
 pub data WholeDamaged (t : List ℕ) (st : State) : Type 0 where
   counts : CountsDamaged st → WholeDamaged t st
-  of-what-the-entry-reaches : ReachDamaged (view (slots t) t) (slots t) → WholeDamaged t st
+  of_what_the_entry_reaches : ReachDamaged (view (slots t) t) (slots t) → WholeDamaged t st
 
 -- 14 "tidy: some task busy"
 abbrev pub some14 : State → Refusal

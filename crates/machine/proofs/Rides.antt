@@ -118,8 +118,8 @@ of_rec r = r.state ∷ r.number ∷ r.price ∷ r.rank ∷ r.left ∷ r.right �
 record World : Type 0 where
   table : List ℕ
   state : State
-  oldTable : List ℕ
-  oldState : State
+  old_table : List ℕ
+  old_state : State
   settled : List ℕ
   fine : Bool
 
@@ -138,8 +138,8 @@ seen w i l =
     record {
       table = l.table;
       state = l.state;
-      oldTable = w.table;
-      oldState = w.state;
+      old_table = w.table;
+      old_state = w.state;
       settled = w.settled;
       fine = w.fine && kept w.table w.state i l;
     }
@@ -186,8 +186,8 @@ stepped w i l =
     record {
       table = l.table;
       state = l.state;
-      oldTable = w.table;
-      oldState = w.state;
+      old_table = w.table;
+      old_state = w.state;
       settled = w.settled ++ if_b (eqb (number_of l.answer) 0) (work_code w.table w.state (task_at w.state i).work) [];
       fine = (seen w i l).fine;
     }
@@ -197,8 +197,8 @@ judge w b =
     record {
       table = w.table;
       state = w.state;
-      oldTable = w.oldTable;
-      oldState = w.oldState;
+      old_table = w.old_table;
+      old_state = w.old_state;
       settled = w.settled;
       fine = w.fine && b;
     }
@@ -244,16 +244,16 @@ acted w (list n) a b =
 -- the damage is done
 hurt_by : World → Hurting → World
 unfolding place
-hurt_by w (field s f x) = record { table = set w.table (place s f) x; state = w.state; oldTable = w.table; oldState = w.state; settled = w.settled; fine = w.fine }
-hurt_by w (m_is x) = record { table = w.table; state = record { tasks = w.state.tasks; m = x; u = w.state.u }; oldTable = w.table; oldState = w.state; settled = w.settled; fine = w.fine }
-hurt_by w (u_is x) = record { table = w.table; state = record { tasks = w.state.tasks; m = w.state.m; u = x }; oldTable = w.table; oldState = w.state; settled = w.settled; fine = w.fine }
-hurt_by w (length_is l) = record { table = take l (w.table ++ replicate l 0); state = w.state; oldTable = w.table; oldState = w.state; settled = w.settled; fine = w.fine }
-hurt_by w (task_is i k) = record { table = w.table; state = with_task w.state i k; oldTable = w.table; oldState = w.state; settled = w.settled; fine = w.fine }
+hurt_by w (field s f x) = record { table = set w.table (place s f) x; state = w.state; old_table = w.table; old_state = w.state; settled = w.settled; fine = w.fine }
+hurt_by w (m_is x) = record { table = w.table; state = record { tasks = w.state.tasks; m = x; u = w.state.u }; old_table = w.table; old_state = w.state; settled = w.settled; fine = w.fine }
+hurt_by w (u_is x) = record { table = w.table; state = record { tasks = w.state.tasks; m = w.state.m; u = x }; old_table = w.table; old_state = w.state; settled = w.settled; fine = w.fine }
+hurt_by w (length_is l) = record { table = take l (w.table ++ replicate l 0); state = w.state; old_table = w.table; old_state = w.state; settled = w.settled; fine = w.fine }
+hurt_by w (task_is i k) = record { table = w.table; state = with_task w.state i k; old_table = w.table; old_state = w.state; settled = w.settled; fine = w.fine }
 
 -- before the last call: where its line began
 called : World → World → World
 called w e =
-    record { table = e.table; state = e.state; oldTable = w.table; oldState = w.state; settled = e.settled; fine = e.fine }
+    record { table = e.table; state = e.state; old_table = w.table; old_state = w.state; settled = e.settled; fine = e.fine }
 
 went : World → List Line → World
 unfolding acted hurt_by called
@@ -306,7 +306,7 @@ left_so w o =
 
 ends_so : World → After → Bool
 unfolding equal of_state left_so
-ends_so w same = equal w.table w.oldTable && equal (of_state w.state) (of_state w.oldState)
+ends_so w same = equal w.table w.old_table && equal (of_state w.state) (of_state w.old_state)
 ends_so w (left o) = left_so w o
 
 -- a reset finds a table of sevens and a state that is no state of a reset
@@ -317,7 +317,7 @@ state_before : State
 state_before = record { tasks = replicate 8 (busy 1 1 (Start Settle)); m = 5; u = 3 }
 
 fresh_world : List ℕ → State → World
-fresh_world t st = record { table = t; state = st; oldTable = t; oldState = st; settled = []; fine = true }
+fresh_world t st = record { table = t; state = st; old_table = t; old_state = st; settled = []; fine = true }
 
 begun_at : From → World → World → World
 unfolding reset_of numbers_before state_before fresh_world

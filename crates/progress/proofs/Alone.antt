@@ -58,7 +58,7 @@ module _ (t : List ℕ) (st : State) (cs : List Ask) (n : ℕ) (e : length t ≡
   unhurt i ds h = no-17 t st (cs ++ ds) (step i) n e least most (ap (λ y. answer_of real y i) (goes-both (started real t st) cs ds) ∙ h)
 
   pub c_is_figure : count_open p.state ≡ (figures_at real p).c
-  c_is_figure = open_is r.stands ∙ sym (low r).c-figure
+  c_is_figure = open_is r.stands ∙ sym (low r).c_figure
 
   entry-ends : (i : ℕ) (j : Job) (g : Goal) → (task_at p.state i).work ≡ Busy j (Start g) → Ends real p i (goal_budget g (figures_at real p).height (figures_at real p).c) (GoalAnswer g)
   entry-ends i j g is = restart_ends i j (figures_at real p).c (figures_at real p).height p r (unhurt i) (omega (arith, c_is_figure)) (height-of r) g is

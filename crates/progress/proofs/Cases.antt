@@ -104,10 +104,10 @@ module _ {p : Point} (s : Stands p) (top : rank s.tree ≡ 255) (i : ℕ) (lt : 
   by_turn (Done a) e q h = let turn = ap (λ (x : Did). x.turn) e in ended a q (answer_is s i lt j f is (Done a) turn) (task_is s i lt j f is (Done a) turn)
   by_turn (Next k) e q (f', d', ek, st, se, le) =
       let turn = ap (λ (x : Did). x.turn) e in
-      onward f' d' (answer_is s i lt j f is (Next k) turn) (table_same s i lt j f is (ap (λ (x : Did). x.writes) e)) (task_is s i lt j f is (Next k) turn ∙ ap (λ (x : Task). x.work) ek) (goal_kept f' q ek) st se le (open-on turn ek (goal_kept f' q ek))
+      onward f' d' (answer_is s i lt j f is (Next k) turn) (table_same s i lt j f is (ap (λ (x : Did). x.writes) e)) (task_is s i lt j f is (Next k) turn ∙ ap (λ (x : Task). x.work) ek) (goal_kept f' q ek) st se le (open_on turn ek (goal_kept f' q ek))
     where
-      open-on : {k : Task} → did.turn ≡ Next k → k ≡ busy j f' → goal_of f' ≡ goal_of f → count_open after-step.state ≡ count_open p.state
-      open-on {k} turn ek g =
+      open_on : {k : Task} → did.turn ≡ Next k → k ≡ busy j f' → goal_of f' ≡ goal_of f → count_open after-step.state ≡ count_open p.state
+      open_on {k} turn ek g =
           let o = next-open s i lt j f is k turn in
           let a : one (work_settles k.work) ≡ one (goal_settles (goal_of f)) = ap (λ (x : Task). one (work_settles x.work)) ek ∙ ap (λ y. one (goal_settles y)) g in
           omega arith

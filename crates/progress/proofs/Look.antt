@@ -148,7 +148,7 @@ module _ (t : List ℕ) (st : State) (cs : List Ask) (n : ℕ) (e : length t ≡
   look-alone : LookUpAlone real p i j
   look-alone = record {
     by_height = ends-wider look-from (omega (arith, height-of r));
-    when-empty = λ z. ends-wider look-from (omega (arith, empty_height r.stands.tree r.stands.shape (top_is r) (r.stands.held ∙ z)));
+    when_empty = λ z. ends-wider look-from (omega (arith, empty_height r.stands.tree r.stands.shape (top_is r) (r.stands.held ∙ z)));
   }
 
 -- THE THEOREM

@@ -98,13 +98,13 @@ busy-below {p} s i j f is =
 -- what any call does to task i: nothing, it becomes idle, or this was its own step
 pub data Touched {p : Point} (s : Stands p) (i : ℕ) (c : Ask) (l : Left) : Type 0 where
   untouched : (task_at l.state i).work ≡ (task_at p.state i).work → Touched s i c l
-  idle-now : (task_at l.state i).work ≡ Idle → Touched s i c l
+  idle_now : (task_at l.state i).work ≡ Idle → Touched s i c l
   stepped-now : (j : Job) (f : Phase) → i < 8 → (task_at p.state i).work ≡ Busy j f → c ≡ step i → Touched s i c l
 
 touched : {p : Point} (s : Stands p) (i : ℕ) {c : Ask} {l : Left} {a : Account} {t' : Tree} → Passes s c l a t' → NotBegin i c l → Touched s i c l
 touched s i (refused x h) nb = untouched refl
 touched s i (looks x h) nb = untouched refl
-touched s i resets nb = idle-now (ap (λ (k : Task). k.work) (all_alike 8 i idle_task))
+touched s i resets nb = idle_now (ap (λ (k : Task). k.work) (all_alike 8 i idle_task))
 touched {p} s i (begins k o j lt idle f) nb = untouched (ap (λ (k : Task). k.work) (stored_other p.state.tasks k i _ idle_task (λ e. nb (sym e) refl)))
 touched {p} s i (steps k j f d lt is e inside does b) nb =
     elim (same_or i k) [
@@ -113,7 +113,7 @@ touched {p} s i (steps k j f d lt is e inside does b) nb =
     ]
 touched {p} s i (abandons k du x lt b e h) nb =
     elim (same_or i k) [
-      | inl q ↦ idle-now (subst (λ y. (task_at (record { tasks = set p.state.tasks k idle_task; m = p.state.m; u = p.state.u + du }) y).work ≡ Idle) (sym q)
+      | inl q ↦ idle_now (subst (λ y. (task_at (record { tasks = set p.state.tasks k idle_task; m = p.state.m; u = p.state.u + du }) y).work ≡ Idle) (sym q)
           (ap (λ (k : Task). k.work) (stored_here p.state.tasks k idle_task idle_task (omega (arith, s.eight)))))
       | inr q ↦ untouched (ap (λ (k : Task). k.work) (stored_other p.state.tasks k i idle_task idle_task q))
     ]
@@ -133,7 +133,7 @@ one-call {p} s top i h c nb same s' = go (touched s i (passing s c).passes nb)
 
     go : Touched s i c (left real p.table p.state c) → Calmly s' i (task_at (advance real p c).state i).work
     go (untouched e) = subst (Calmly s' i) (sym e) (calmly-same s s' same i (task_at p.state i).work h)
-    go (idle-now e) = subst (Calmly s' i) (sym e) tt
+    go (idle_now e) = subst (Calmly s' i) (sym e) tt
     go (stepped-now j f lt is e) = own j f lt is c e same s'
 
 all_calls : (i : ℕ) (cs : List Ask) {p : Point} (s : Stands p) → rank s.tree ≡ 255 → Calmly s i (task_at p.state i).work → Untouched real i p cs → starts_at (goes real p cs) i ≡ false

@@ -124,7 +124,7 @@ module _ (t : List ℕ) (st : State) (cs : List Ask) (n : ℕ) (e : length t ≡
       let s = r.stands in
       let ok = task_ok s i lt j f is in
       let l = left-of (view_at s) s.tree s.carries j ok.0 f ok.2 in
-      record { L = l.0; walk-left = subst (λ m. WalkLeft (view m p.table) j.number f l.0) (sym (slots-is s)) l.1; fits = omega (arith, left-fits f l.0 l.1, slots-is s); ends = ends_by f is l.0 l.2 }
+      record { L = l.0; walk_left = subst (λ m. WalkLeft (view m p.table) j.number f l.0) (sym (slots-is s)) l.1; fits = omega (arith, left-fits f l.0 l.1, slots-is s); ends = ends_by f is l.0 l.2 }
 
 -- THE THEOREM
 pub all_tasks_end : AllTasksEnd real

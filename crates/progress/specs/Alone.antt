@@ -36,7 +36,7 @@ FoundOrNot x = (x ≡ 1) ⊎ (x ≡ 2)
 -- held, 1 step
 pub record LookUpAlone (M : Machine) (p : Point) (i : ℕ) (j : Job) : Type 0 where
   pub by_height : Ends M (advance M p (begin i LookUp j)) i ((figures_at M p).height + 2) FoundOrNot
-  pub when-empty : given p.account.commits ≡ [] → Ends M (advance M p (begin i LookUp j)) i 1 FoundOrNot
+  pub when_empty : given p.account.commits ≡ [] → Ends M (advance M p (begin i LookUp j)) i 1 FoundOrNot
 
 abbrev pub LookUpsEnd : Machine → Type 0
 LookUpsEnd M =

@@ -33,7 +33,7 @@ WalkLeft v k (Settling q s) L = L ≡ 0
 -- there is such a number of links, no more than the table has slots, and with it
 pub record AnyTaskEnds (M : Machine) (p : Point) (i : ℕ) (j : Job) (f : Phase) : Type 0 where
   pub L : ℕ
-  pub walk-left : WalkLeft (view (slots p.table) p.table) j.number f L
+  pub walk_left : WalkLeft (view (slots p.table) p.table) j.number f L
   pub fits : L ≤ slots p.table
   pub ends : Ends M p i ((L + 5) + goal_budget (goal_of f) (figures_at M p).height (figures_at M p).c) (GoalAnswer (goal_of f))
 

@@ -151,8 +151,8 @@ pub ruleset two-rows = (quiet, two-high, two-low)
 
 pub ruleset double-rows = (quiet, double-full, double-made)
 
-pub ruleset promote-by-rows = (quiet, by_outranked, by_promote, by_wider)
+pub ruleset promote_by_rows = (quiet, by_outranked, by_promote, by_wider)
 
-pub ruleset rotate-by-rows = (quiet, by_none, by_one, by_two, by_unread)
+pub ruleset rotate_by_rows = (quiet, by_none, by_one, by_two, by_unread)
 
-pub ruleset double-by-rows = (quiet, four-none, four-one, four-two, four-double)
+pub ruleset double_by_rows = (quiet, four-none, four-one, four-two, four-double)

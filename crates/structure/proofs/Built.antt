@@ -143,7 +143,7 @@ module _ (n : ℕ) (v : View) (t : Tree) (i : Carries v t) (sh : Shape t) (b : B
   is_built = record {
     in_tree = λ x. (is_reached x, λ g. is_in_tree g.0 x (from g.0 x g.1));
     once = λ w u x g h. is_once w u x (from w x g) (from u x h);
-    no-ones-child = back;
+    no_ones_child = back;
     order = λ w u side x y g nz h. is_ordered w u side x y (from w x g) nz h;
     formed = λ w x g. is_formed w x (from w x g);
     ranks = λ w side x y g h. is_ranked w side x y (from w x g) h;

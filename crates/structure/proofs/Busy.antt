@@ -105,8 +105,8 @@ since_read {start} s₀ calls i r h still =
       after = h.after;
       split = h.split;
       reads = h.reads;
-      as-noted = h.as-noted;
+      as_noted = h.as_noted;
       never-changed =
-          same-while_busy (keeps-all s₀ h.before) i r.slot (step i ∷ h.after) h.busy-since h.as-noted.state-1
-          (record { state-1 = now.state-1; left-as-noted = now.left-as-noted ∙ sym h.as-noted.left-as-noted; right-as-noted = now.right-as-noted ∙ sym h.as-noted.right-as-noted });
+          same-while_busy (keeps-all s₀ h.before) i r.slot (step i ∷ h.after) h.busy-since h.as_noted.state-1
+          (record { state-1 = now.state-1; left_as_noted = now.left_as_noted ∙ sym h.as_noted.left_as_noted; right_as_noted = now.right_as_noted ∙ sym h.as_noted.right_as_noted });
     }

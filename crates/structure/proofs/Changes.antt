@@ -93,7 +93,7 @@ module _ {v w : View} (fate : (x : ℕ) → Fate v (v x) (w x)) where
   fates_call : OneCall v w
   fates_call = record {
     grows = record { used = used_on; frozen = λ x e. frozen (fate x) e; one-or_two = stays_or_off; labels = labels_on; fresh-links = links-on };
-    only-state = state-only;
+    only_state = state-only;
     born = born_on;
   }
 

@@ -91,7 +91,7 @@ module _ {u v w : View} (g : Grows u v) (h : Grows v w) (x : ℕ) (one : (u x).s
 
   pub never-changed : v x ≡ u x
   never-changed =
-      same-rec (v x) (u x) (still_one ∙ sym one) (g.labels x (λ z. omega (arith, z, one))) (back-link true still.left-as-noted) (back-link false still.right-as-noted)
+      same-rec (v x) (u x) (still_one ∙ sym one) (g.labels x (λ z. omega (arith, z, one))) (back-link true still.left_as_noted) (back-link false still.right_as_noted)
 
 -- the links of a record of the tree lead to records of the tree, or to none: 0 is the entry's slot
 way_on : (v : View) (a : ℕ) (w : Way) (b : ℕ) (side : Bool) → Goes v a w b → (link_on side (v b) ≡ 0 → ⊥) → Goes v a (w ++ (side ∷ [])) (link_on side (v b))

@@ -97,7 +97,7 @@ module _ (v : View) (j : Job) (f : Phase) where
   read-turns s formed good one e =
       if_elim (Turns v j f) _ (λ q. hurt)
       (λ q. if_elim (Turns v j f) _
-      (λ g. turns (rw e (one_more (note s (links_of (v s))) (record { state-1 = eqb-true _ _ (one g); left-as-noted = refl; right-as-noted = refl })))) (λ g. again (goal_of f)))
+      (λ g. turns (rw e (one_more (note s (links_of (v s))) (record { state-1 = eqb-true _ _ (one g); left_as_noted = refl; right_as_noted = refl })))) (λ g. again (goal_of f)))
 
   -- a commit: its change is made only where the test holds, and it leaves no notes
   data Changes (d : Did) : Type 0 where

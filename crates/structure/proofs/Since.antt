@@ -45,7 +45,7 @@ pub record SinceRead (start : Point) (calls : List Ask) (i : ℕ) (r : Note) : T
   pub after : List Ask
   pub split : calls ≡ before ++ (step i ∷ after)
   pub reads : notes_at (advance real (goes real start before) (step i)) i ≡ notes_at (goes real start before) i ++ (r ∷ [])
-  pub as-noted : AsNoted (view_of (goes real start before) r.slot) r.links
+  pub as_noted : AsNoted (view_of (goes real start before) r.slot) r.links
   pub busy-since : Always (BusyAt i) (goes real start before) (step i ∷ after)
 
 abbrev pub AllRead : Point → List Ask → Type 0
@@ -67,7 +67,7 @@ module _ {start : Point} (s₀ : Stands start) (calls : List Ask) (c : Ask) wher
         after = h.after ++ (c ∷ []);
         split = ap (λ x. x ++ (c ∷ [])) h.split ∙ append_assoc h.before (step i ∷ h.after) (c ∷ []);
         reads = h.reads;
-        as-noted = h.as-noted;
+        as_noted = h.as_noted;
         busy-since = always-snoc (BusyAt i) (goes real start h.before) (step i ∷ h.after) c h.busy-since (subst (λ y. BusyAt i (advance real y c)) (sym at) b);
       }
 
@@ -83,7 +83,7 @@ module _ {start : Point} (s₀ : Stands start) (calls : List Ask) (c : Ask) wher
             after = [];
             split = ap (λ y. calls ++ (y ∷ [])) ec;
             reads = subst (λ y. notes_at (advance real here y) i ≡ notes_at here i ++ (r ∷ [])) ec (subst (λ y. notes_at then i ≡ notes_at here i ++ (y ∷ [])) (sym er) e);
-            as-noted = subst (λ y. AsNoted (view_of here y.slot) y.links) (sym er) a;
+            as_noted = subst (λ y. AsNoted (view_of here y.slot) y.links) (sym er) a;
             busy-since = (b, subst (λ y. BusyAt i (advance real here y)) ec b');
           }
 

@@ -14,7 +14,7 @@ use Rattle.demand2.proofs.Stands.{Stands, fits-is}
 use Rattle.demand2.specs.Demand2.{held_at}
 use Rattle.fares.specs.Fares.{fares}
 use Rattle.grounds.specs.Record.{AsNoted}
-use Rattle.grounds.specs.Ways.{ReachDamaged, in-state-2, not-well-formed, reached-twice}
+use Rattle.grounds.specs.Ways.{ReachDamaged, in_state_2, not_well_formed, reached-twice}
 use Rattle.history.specs.History.{Ask}
 use Rattle.history.specs.Ledger.{Point, advance, goes, history, started}
 use Rattle.history.specs.Machine.{real}
@@ -48,8 +48,8 @@ goes-long s [] = refl
 goes-long {p} s (c ∷ cs) = goes-long {p = advance real p c} (keeps s c) cs ∙ after-long s (passing s c).passes ∙ sym s.size
 
 undamaged : (n : ℕ) (v : View) → Built n v → ReachDamaged v n → ⊥
-undamaged n v b (not-well-formed w x g d) = d (b.formed w x g)
-undamaged n v b (in-state-2 w x g d) = omega (arith, d, (b.in_tree x).1 (w, g))
+undamaged n v b (not_well_formed w x g d) = d (b.formed w x g)
+undamaged n v b (in_state_2 w x g d) = omega (arith, d, (b.in_tree x).1 (w, g))
 undamaged n v b (reached-twice w u x d g h) = d (b.once w u x g h)
 
 module _ (t : List ℕ) (st : State) (cs : List Ask) (n : ℕ) (e : length t ≡ 6 * n) (least : 8 ≤ n) (most : n ≤ 4096) where
@@ -92,14 +92,14 @@ module _ (t : List ℕ) (st : State) (cs : List Ask) (n : ℕ) (e : length t ≡
     states = all_stated t st cs n e least most s;
     one-call = one-call_at s;
     grows = grows-over s;
-    others-write-nothing = no-writes_at s;
+    others_write_nothing = no-writes_at s;
     tidy-accepted = (tidy-only s, tidy-when s);
     tidied = tidied-at s;
     reset-accepted = ap (λ (l : Left). l.answer) (reset-is here.table here.state (fits-is s));
     reset-anew = anew_at s;
-    in-tree-count = subst (λ k. in_tree_of (view_of here) k ≡ 2 * length (held_at here) + 2) slots-are (in_tree_at s sized);
+    in_tree_count = subst (λ k. in_tree_of (view_of here) k ≡ 2 * length (held_at here) + 2) slots-are (in_tree_at s sized);
     in_use = in_use_at s sized;
-    changes-what-it-read = step-covered s;
+    changes_what_it_read = step-covered s;
     same-between = same-while_busy s;
   }
 
@@ -115,7 +115,7 @@ module _ (t : List ℕ) (st : State) (cs : List Ask) (n : ℕ) (e : length t ≡
   read-since : ReadSince (started real t st) cs
   read-since = record {
     as_read = read-as_noted;
-    tested-as-read = λ i h r o. read-as_noted i r o (test_noted (goes real (started real t st) cs) i h r o);
+    tested_as_read = λ i h r o. read-as_noted i r o (test_noted (goes real (started real t st) cs) i h r o);
     writes-tested = step-tested (keeps-all s₀ cs);
   }
 

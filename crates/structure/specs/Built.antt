@@ -16,7 +16,7 @@ pub record Built (n : ℕ) (v : View) : Type 0 where
   -- each is reached once: no two ways lead to it
   pub once : (w u : Way) (x : ℕ) → Goes v 0 w x → Goes v 0 u x → w ≡ u
   -- "slot 0 is the entry and is nobody's child": no way comes back to it
-  pub no-ones-child : (side : Bool) (w : Way) → ¬ (Goes v 0 (side ∷ w) 0)
+  pub no_ones_child : (side : Bool) (w : Way) → ¬ (Goes v 0 (side ∷ w) 0)
   -- search order: the numbers below the left link of a record are smaller than its own, those below its right link are not. The entry holds all on its left
   pub order : (w u : Way) (side : Bool) (x y : ℕ) → Goes v 0 w x → x ≢ 0 → Goes v x (side ∷ u) y → Side side (v y).number (v x).number
   -- each record is well formed: its number is a fare's or the sentinels', which stands above all of these

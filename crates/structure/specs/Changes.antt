@@ -67,7 +67,7 @@ pub record Grows (v w : View) : Type 0 where
 pub record OneCall (v w : View) : Type 0 where
   pub grows : Grows v w
   -- "Every record replaced is taken off, and only its state changes"
-  pub only-state : (x : ℕ) → (v x).state ≡ 1 → (w x).state ≡ 2 → w x ≡ taken_off (v x)
+  pub only_state : (x : ℕ) → (v x).state ≡ 1 → (w x).state ≡ 2 → w x ≡ taken_off (v x)
   -- a free slot stays as it is, or gets a record of the tree
   pub born : (x : ℕ) → (v x).state ≡ 0 → (w x ≡ v x) ⊎ ((w x).state ≡ 1)
 

@@ -130,6 +130,6 @@ pub record Unchanged (start : Point) (calls : List Ask) (i : ℕ) (r : Note) : T
   -- this step noted it
   pub reads : notes_at (advance real (goes real start before) (step i)) i ≡ notes_at (goes real start before) i ++ (r ∷ [])
   -- it was in state 1, with the links that were noted
-  pub as-noted : AsNoted (view_of (goes real start before) r.slot) r.links
+  pub as_noted : AsNoted (view_of (goes real start before) r.slot) r.links
   -- neither a link nor its state, nor anything else of it, was changed at any moment since
   pub never-changed : Always (λ p. view_of p r.slot ≡ view_of (goes real start before) r.slot) (goes real start before) (step i ∷ after)

@@ -29,7 +29,7 @@ pub record Structured (n : ℕ) (p : Point) : Type 0 where
   -- and any number of them
   pub grows : (later : List Ask) → NoneFrees p later → Grows (view_of p) (view_of (goes real p later))
   -- only a step, a tidy and a reset write at all
-  pub others-write-nothing : (c : Ask) → ¬ (Writes c) → (advance real p c).table ≡ p.table
+  pub others_write_nothing : (c : Ask) → ¬ (Writes c) → (advance real p c).table ≡ p.table
   -- "Tidy, with all tasks idle": it is accepted exactly then
   pub tidy-accepted : Frees p tidy ↔ (busy_tasks p.state.tasks 8 ≡ 0)
   pub tidied : Frees p tidy → Tidied (view_of p) (view_of (advance real p tidy))
@@ -37,10 +37,10 @@ pub record Structured (n : ℕ) (p : Point) : Type 0 where
   pub reset-accepted : Frees p reset
   pub reset-anew : Anew (view_of (advance real p reset))
   -- with n fares 2n + 2 slots are in state 1, and after a tidy no others are in use
-  pub in-tree-count : in_tree_of (view_of p) n ≡ 2 * length (held_at p) + 2
+  pub in_tree_count : in_tree_of (view_of p) n ≡ 2 * length (held_at p) + 2
   pub in_use : Frees p tidy → InUse p (advance real p tidy)
   -- a step changes no record in use but those that its task has read
-  pub changes-what-it-read : (i x : ℕ) → (view_of p x).state ≢ 0 → view_of (advance real p (step i)) x ≢ view_of p x → (r : Note) × OneOf r (notes_at p i) × (r.slot ≡ x)
+  pub changes_what_it_read : (i x : ℕ) → (view_of p x).state ≢ 0 → view_of (advance real p (step i)) x ≢ view_of p x → (r : Note) × OneOf r (notes_at p i) × (r.slot ≡ x)
   -- while a task is busy: a record of the tree that is found in state 1 with both links as they were has been the same at every moment between
   pub same-between : (i x : ℕ) (later : List Ask) → Always (BusyAt i) p later → (view_of p x).state ≡ 1 → AsNoted (view_of (goes real p later) x) (links_of (view_of p x))
       → Always (λ q. view_of q x ≡ view_of p x) p later
@@ -50,7 +50,7 @@ pub record ReadSince (start : Point) (calls : List Ask) : Type 0 where
   -- every note of a task was read at a step of it, and if its record is as noted now, it was never changed since
   pub as_read : (i : ℕ) (r : Note) → OneOf r (notes_at (goes real start calls) i) → AsNoted (view_of (goes real start calls) r.slot) r.links → Unchanged start calls i r
   -- where the test of a commit holds, no record that its task has read was changed at any moment since its reading
-  pub tested-as-read : (i : ℕ) → TestHolds (goes real start calls) i → (r : Note) → OneOf r (notes_at (goes real start calls) i) → Unchanged start calls i r
+  pub tested_as_read : (i : ℕ) → TestHolds (goes real start calls) i → (r : Note) → OneOf r (notes_at (goes real start calls) i) → Unchanged start calls i r
   -- and a step changes the table only where its test holds
   pub writes-tested : (i : ℕ) → (advance real (goes real start calls) (step i)).table ≢ (goes real start calls).table → TestHolds (goes real start calls) i
 

@@ -80,15 +80,15 @@ module _ {v w : View} {t t' : Tree} {x y : ℕ} (g : Surgery v w t t' x y) (free
   }
 
   chosen-kept : (q : Path) (a b : Links) → Chosen v q a b → Chosen w q a b
-  chosen-kept q a b h = record { to-z = h.to-z; to-x = h.to-x; s-used = used_kept (other b q.here) h.s-used; s-pos = h.s-pos; z-x = h.z-x }
+  chosen-kept q a b h = record { to-z = h.to-z; to-x = h.to-x; s_used = used_kept (other b q.here) h.s_used; s_pos = h.s_pos; z_x = h.z_x }
 
   turning-kept : (q : Path) (a b c : Links) → Turning v q a b c → Turning w q a b c
   turning-kept q a b c h = record {
     chosen = chosen-kept q a b h.chosen;
-    y-used = used_kept (around_of q a b c).y h.y-used;
+    y_used = used_kept (around_of q a b c).y h.y_used;
     y_pos = h.y_pos;
-    w-used = used_kept (around_of q a b c).w h.w-used;
-    w-pos = h.w-pos;
+    w_used = used_kept (around_of q a b c).w h.w_used;
+    w_pos = h.w_pos;
   }
 
   take_kept : (q : Path) (s : TakeStage) → TakeNotes v q s → TakeNotes w q s
@@ -104,7 +104,7 @@ module _ {v w : View} {t t' : Tree} {x y : ℕ} (g : Surgery v w t t' x y) (free
   settle-kept q (SettleChoose a b) u h = chosen-kept q a b h
   settle-kept q (SettleRotate a b c) u h = turning-kept q a b c h
   settle-kept q (SettleDouble a b c d) u h =
-      (turning-kept q a b c h.0, omega (arith, h.1, (like q.here u).rank, (like (around_of q a b c).y h.0.y-used).rank))
+      (turning-kept q a b c h.0, omega (arith, h.1, (like q.here u).rank, (like (around_of q a b c).y h.0.y_used).rank))
 
   level-kept : (q : Path) → Used v q.parent → Used v q.here → level (v q.parent) (v q.here) ≡ true → level (w q.parent) (w q.here) ≡ true
   unfolding level sentinel

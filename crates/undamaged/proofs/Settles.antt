@@ -122,9 +122,9 @@ module _ (n : ℕ) (v : View) (t : Tree) (g : Ground n v t) (paid : phi t ≤ 20
       record {
         to-z = to-z;
         to-x = to-x;
-        s-used = other-which (λ y. Used v y) (links_of (v z)) x (λ e. omega (arith, bl.one)) (λ e. omega (arith, br.one));
-        s-pos = other-which (λ y. y ≡ 0 → ⊥) (links_of (v z)) x w.parent_in.1 z_right;
-        z-x = elim (leads-which (links_of (v z)) x to-x) [ inl e ↦ (λ y. bl.apart (y ∙ sym e)) | inr e ↦ (λ y. br.apart (y ∙ sym e)) ];
+        s_used = other-which (λ y. Used v y) (links_of (v z)) x (λ e. omega (arith, bl.one)) (λ e. omega (arith, br.one));
+        s_pos = other-which (λ y. y ≡ 0 → ⊥) (links_of (v z)) x w.parent_in.1 z_right;
+        z_x = elim (leads-which (links_of (v z)) x to-x) [ inl e ↦ (λ y. bl.apart (y ∙ sym e)) | inr e ↦ (λ y. br.apart (y ∙ sym e)) ];
       }
 
   parent-safe : (a : Links) → leads a z ≡ true → Safe v t (read_parent n j q a (v z))
@@ -141,7 +141,7 @@ module _ (n : ℕ) (v : View) (t : Tree) (g : Ground n v t) (paid : phi t ≤ 20
 
     form : choose_formed n q b (v z) (v x) (v o) ≡ true
     unfolding choose_formed
-    form = and_true _ _ (parent-formed n v t g q w) (and_true _ _ (here-linked n v t g q w) (linked-is n v t g o ch.s-pos ch.s-used))
+    form = and_true _ _ (parent-formed n v t g q w) (and_true _ _ (here-linked n v t g q w) (linked-is n v t g o ch.s_pos ch.s_used))
 
     ground-two : grounds_two n q a b (v q.grand) (v z) (v x) ≡ true
     unfolding grounds_two
@@ -149,7 +149,7 @@ module _ (n : ℕ) (v : View) (t : Tree) (g : Ground n v t) (paid : phi t ≤ 20
 
     ground-three : grounds_three n q a b (v q.grand) (v z) (v x) ≡ true
     unfolding grounds_three
-    ground-three = and_true _ _ ground-two (and_true _ _ (differs _ _ g_x) (differs _ _ ch.z-x))
+    ground-three = and_true _ _ ground-two (and_true _ _ (differs _ _ g_x) (differs _ _ ch.z_x))
 
     pair_is : test_two a b (v q.grand) (v z) ≡ true → Pair v q.grand z x o (eqb a.left z) (eqb b.left x)
     pair_is te = pair_found v t g.carries g.shape n m j q up a b form ground-two te
@@ -160,7 +160,7 @@ module _ (n : ℕ) (v : View) (t : Tree) (g : Ground n v t) (paid : phi t ≤ 20
 
     -- s does not outrank z
     s_low : test_two a b (v q.grand) (v z) ≡ true → (v o).rank ≤ (v z).rank
-    s_low te = let p = pair_is te in (below-facts n v t g.carries g.shape g.bounded z o (not (eqb b.left x)) (z_one te) (sym p.to-o) ch.s-pos).lower
+    s_low te = let p = pair_is te in (below-facts n v t g.carries g.shape g.bounded z o (not (eqb b.left x)) (z_one te) (sym p.to-o) ch.s_pos).lower
 
     -- promote
     promote-ok : (row : ParentRow) → is_wider row ≡ false → ParentFacts (v z).rank (v o).rank row → test_two a b (v q.grand) (v z) ≡ true → Ok (promote_by row v n j q a b (v z))
@@ -184,17 +184,17 @@ module _ (n : ℕ) (v : View) (t : Tree) (g : Ground n v t) (paid : phi t ≤ 20
     turning-is wide one =
         record {
           chosen = ch;
-          y-used = rw (link_at_is (not (eqb b.left x)) (v x)) (λ e. omega (arith, child (not (eqb b.left x))));
-          y_pos = rw (link_at_is (not (eqb b.left x)) (v x)) (x-link (not (eqb b.left x)));
-          w-used = rw (link_at_is (eqb b.left x) (v x)) (λ e. omega (arith, child (eqb b.left x)));
-          w-pos = rw (link_at_is (eqb b.left x) (v x)) (x-link (eqb b.left x));
+          y_used = rw (link_at_is (not (eqb b.left x)) (v x)) (λ e. omega (arith, child (not (eqb b.left x))));
+          y_pos = rw (link_at_is (not (eqb b.left x)) (v x)) (x_link (not (eqb b.left x)));
+          w_used = rw (link_at_is (eqb b.left x) (v x)) (λ e. omega (arith, child (eqb b.left x)));
+          w_pos = rw (link_at_is (eqb b.left x) (v x)) (x_link (eqb b.left x));
         }
       where
-        x-link : (d : Bool) → link d (v x) ≡ 0 → ⊥
-        x-link d = inner-links n x (v x) (formed n v t g x w.here-used) w.here-pos (x_inner wide) d
+        x_link : (d : Bool) → link d (v x) ≡ 0 → ⊥
+        x_link d = inner-links n x (v x) (formed n v t g x w.here-used) w.here-pos (x_inner wide) d
 
         child : (d : Bool) → (v (link d (v x))).state ≡ 1
-        child d = (below-facts n v t g.carries g.shape g.bounded x (link d (v x)) d one refl (x-link d)).one
+        child d = (below-facts n v t g.carries g.shape g.bounded x (link d (v x)) d one refl (x_link d)).one
 
     choose_safe : Ok (choose_step v n j q a b (v z) (v x) (v o))
     unfolding choose_step choose_by commit_two read_on
@@ -216,7 +216,7 @@ module _ (n : ℕ) (v : View) (t : Tree) (g : Ground n v t) (paid : phi t ≤ 20
 
       y_u : Used v yy
       unfolding around_of
-      y_u = tn.y-used
+      y_u = tn.y_used
 
       y_p : yy ≡ 0 → ⊥
       unfolding around_of
@@ -224,11 +224,11 @@ module _ (n : ℕ) (v : View) (t : Tree) (g : Ground n v t) (paid : phi t ≤ 20
 
       w_u : Used v ww
       unfolding around_of
-      w_u = tn.w-used
+      w_u = tn.w_used
 
       w_p : ww ≡ 0 → ⊥
       unfolding around_of
-      w_p = tn.w-pos
+      w_p = tn.w_pos
 
       turn-formed : turn_formed n (around_of q a b c) (v yy) (v ww) ≡ true
       unfolding turn_formed around_of

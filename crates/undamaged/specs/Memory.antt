@@ -70,17 +70,17 @@ TakeNotes v q (TakeCommit a b c d) = Children v q a b
 pub record Chosen (v : View) (q : Path) (a b : Links) : Type 0 where
   pub to-z : leads a q.parent ≡ true
   pub to-x : leads b q.here ≡ true
-  pub s-used : Used v (other b q.here)
-  pub s-pos : other b q.here ≡ 0 → ⊥
-  pub z-x : q.parent ≡ q.here → ⊥
+  pub s_used : Used v (other b q.here)
+  pub s_pos : other b q.here ≡ 0 → ⊥
+  pub z_x : q.parent ≡ q.here → ⊥
 
 -- x was read too: y and w are in use
 pub record Turning (v : View) (q : Path) (a b c : Links) : Type 0 where
   pub chosen : Chosen v q a b
-  pub y-used : Used v (around_of q a b c).y
+  pub y_used : Used v (around_of q a b c).y
   pub y_pos : (around_of q a b c).y ≡ 0 → ⊥
-  pub w-used : Used v (around_of q a b c).w
-  pub w-pos : (around_of q a b c).w ≡ 0 → ⊥
+  pub w_used : Used v (around_of q a b c).w
+  pub w_pos : (around_of q a b c).w ≡ 0 → ⊥
 
 abbrev pub SettleNotes : View → Path → SettleStage → Type 0
 SettleNotes v q SettleGrand = Unit {0}
