@@ -49,7 +49,7 @@ pub data Act (v : View) : Kind → Tree → View → Tree → Type 0 where
       (wrote v c y' (fresh y' (side_rec b ky (suc j) x' z') ∷ duo b (fresh x' (side_rec b kx j (root W) (root A))) (fresh z' (side_rec b kz j (root B) (root S)))) (z ∷ x ∷ y ∷ []))
       (plug c (flat b y' x' z' kx ky kz (suc j) j j W A B S))
 
--- the record above_act the changed place
+-- the record above the changed place
 abbrev pub above_act : {v w : View} {kind : Kind} {t t' : Tree} → Act v kind t w t' → ℕ
 above_act (puts c k p h kh ph rh a l m RK kl pl rl km pm rm fa fl fm al lm r two fits on) = parent c
 above_act (takes c b p kp rp l kl pl rl s' S free fare) = parent c

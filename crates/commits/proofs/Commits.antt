@@ -48,7 +48,7 @@ both_by : (v : View) (c : Ctx) (old new : Tree) (N : List Fresh) (R : List ℕ) 
 both_by v c old new N R {x} {y} i m l f e =
     subst (λ a. Both v (wrote v c a N R) (plug c old) (plug c new) x y) e (surgery_by v c old new N R i m l, from_at c i (commit-inv v c old new N R i m) l f)
 
--- ---- put_in
+-- ---- put-in
 
 module _ (v : View) (c : Ctx) (h kh ph rh a l m K RK kl pl rl km pm rm : ℕ) (i : Carries v (plug c (leaf h kh ph rh)))
     (fa : (v a).state ≡ 0) (fl : (v l).state ≡ 0) (fm : (v m).state ≡ 0) (al : a < l) (lm : l < m) where
@@ -263,7 +263,7 @@ module _ (v : View) (c : Ctx) (b : Bool) (z x y y' x' z' kx ky kz rz rx ry j : �
       (double w₃ (rank_c c) b z x y y' x' z' kx ky kz rz rx ry j W A B S oz ox oy (old_once v c sunk level_out N₃ R₃ i double-commit) (commit-ran v c sunk level_out N₃ R₃ i double-commit) oxy oyz ey hw hs)
       (λ e. double-from w₃ (rank_c c) b z x y y' x' z' kx ky kz rz rx ry j W A B S oz ox oy lx) (root-join b y' ky (suc j) (join b x' kx j W A) (join b z' kz j B S))
 
--- ---- take_out
+-- ---- take-out
 
 -- the copy: the sibling's record in a fresh slot
 renew-held : (v w : View) (s' : ℕ) (S : Tree) → w s' ≡ v (root S) → Holds v S → ((T : Tree) → ((s : ℕ) → occ s T ≤ occ s S) → Holds v T → Holds w T) → Holds w (renew s' S)

@@ -26,7 +26,7 @@ gone w q y new ran o = elim (pos-cases (occ y new)) [ inl p ↦ absurd (omega (a
 not_level : (q r : ℕ) → (q ≡ r → ⊥) → lv q r ≡ true → ⊥
 not_level q r d e = d (lv-eq q r e)
 
--- ---- put_in
+-- ---- put-in
 
 module _ (w : View) (q h kh ph rh a K RK l kl pl rl m km pm rm : ℕ) (oh : Off w h)
     (ran : (s : ℕ) → 1 ≤ occ s (node a K RK (leaf l kl pl rl) (leaf m km pm rm)) → (w s).state ≡ 1) where
@@ -219,7 +219,7 @@ module _ (w : View) (q : ℕ) (b : Bool) (z x y y' x' z' kx ky kz rz rx ry : ℕ
   pub double-from : lv rz rx ≡ true → 1 ≤ lev_at q x sunk
   double-from e = omega (arith, lev-deep b q x z x y kx ky kz rz rx ry W A B S, lvs-yes rz rx (ind x x) e, ind-same x)
 
--- ---- take_out: parent p, leaf l and sibling s are taken off, and the token of s goes to its copy
+-- ---- take-out: parent p, leaf l and sibling s are taken off, and the token of s goes to its copy
 
 renew-swap : {Off : ℕ → Type 0} {y : ℕ} {L : Route} (k s' : ℕ) (t : Tree) → Patch Off y L (route k (renew s' t)) → Swap Off s' y L (route k (renew s' t))
 renew-swap k s' (leaf s key pr rk) p = patch p

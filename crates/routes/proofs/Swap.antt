@@ -12,7 +12,7 @@ use Rattle.routes.specs.Route.{Above, Has, Route, route, stop, via}
 use Rattle.trees.proofs.Plug.{ind-eq}
 use Rattle.trees.specs.Tree.{Ctx, Tree, hole, node, occ, occ_c, plug, top}
 
--- from the place on: taken_off records go, any records come, and the rest, which has nothing above y, stays as it was; or the old route ends there
+-- from the place on: taken-off records go, any records come, and the rest, which has nothing above y, stays as it was; or the old route ends there
 pub data Patch (Off : ℕ → Type 0) (y : ℕ) : Route → Route → Type 0 where
   rest : {L : Route} → ((a : ℕ) → Above a y L → ⊥) → Patch Off y L L
   drop : {s r : ℕ} {L M : Route} → Off s → Patch Off y L M → Patch Off y (via s r L) M

@@ -24,7 +24,7 @@ pub record Structured (n : ℕ) (p : Point) : Type 0 where
   pub never-damaged : ¬ (ReachDamaged (view_of p) n)
   -- every slot is free and all zero, in the tree, or taken off
   pub states : (x : ℕ) → Stated (view_of p x)
-  -- what any call but an accepted tidy or reset changes: taken_off records are frozen, records of the tree get links to fresh slots alone
+  -- what any call but an accepted tidy or reset changes: taken-off records are frozen, records of the tree get links to fresh slots alone
   pub one-call : (c : Ask) → ¬ (Frees p c) → OneCall (view_of p) (view_of (advance real p c))
   -- and any number of them
   pub grows : (later : List Ask) → NoneFrees p later → Grows (view_of p) (view_of (goes real p later))

@@ -65,7 +65,7 @@ unfolding commit_if
 commit-in n k g t change h =
     if_elim (Inside n) (not g) (λ e. tt) (λ e. if_elim (Inside n) (not t) (λ f. tt) (λ f. h (not-false g e)))
 
--- put_in
+-- put-in
 module _ (n : ℕ) (v : View) (j : Job) (q : Path) (e : Bool) (p h : Rec) (pi : q.parent < n) (hi : q.here < n) where
   put-writes_in : (x y z : ℕ) → x < n → y < n → z < n → Within n (put_writes j q e h x y z)
   unfolding put_writes
