@@ -39,10 +39,17 @@ chmod +x "out/$name"
 
 const SAME: &str = "#!/bin/sh\nexec \"$SECOND\" run\n";
 
+/// The gate takes no list of crates but the repository's own, so none is left behind.
+impl Drop for Yard {
+    fn drop(&mut self) {
+        let _ = fs::remove_dir_all(&self.top);
+    }
+}
+
 impl Yard {
     fn new(name: &str) -> Yard {
         let turn = TURN.lock().unwrap_or_else(|error| error.into_inner());
-        let top = PathBuf::from(env!("CARGO_TARGET_TMPDIR")).join(name);
+        let top = std::env::temp_dir().join(format!("tiebeamer-{}-{name}", std::process::id()));
         let _ = fs::remove_dir_all(&top);
         for part in ["second", "crates/fare/src", "crates/probe"] {
             fs::create_dir_all(top.join(part)).expect("a folder of our own");
