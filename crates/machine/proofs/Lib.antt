@@ -5,6 +5,7 @@ pub mod Scan
 pub mod Count
 pub mod Writes
 pub mod Tests
+pub mod Sound
 pub mod Reach
 pub mod Marks
 pub mod Ride

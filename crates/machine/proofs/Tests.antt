@@ -5,7 +5,7 @@ use mathlib.Core.List.{List}
 use Prim.Native.Nat.{ℕ, ◌*◌, ◌/◌, ◌%◌, ◌≤◌, ◌<◌}
 use native.Mathlib.Omega.{arith}
 use lib.Dec.{leb, eqb}
-use borrow.Author.Tests.{ltb-true, leb-true, eqb-true, not-false}
+use borrow.Author.Tests.{ltb-true, leb-true, eqb-true}
 use Rattle.machine.specs.Record.{well_formed, linked}
 use Rattle.machine.specs.Table.{view, length_fits}
 use Rattle.machine.proofs.Choice.{if_elim}
@@ -35,9 +35,9 @@ unfolding linked
 linked-in n t s e = formed-in n t s (both-second (not (eqb s 0)) _ e)
 
 -- a table whose length fits
-module _ (l : ℕ) (b : Bool) (eb : b ≡ length_fits l) (e : not b ≡ false) where
+module _ (l : ℕ) (b : Bool) (eb : b ≡ length_fits l) (e : b ≡ true) where
   fits : length_fits l ≡ true
-  fits = rw eb at (not-false b e)
+  fits = rw eb at e
 
   pub fits-most : l ≤ 24576
   unfolding length_fits
@@ -59,3 +59,7 @@ module _ (l : ℕ) (b : Bool) (eb : b ≡ length_fits l) (e : not b ≡ false) w
 
   pub slots-least : 8 ≤ l / 6
   slots-least = omega (arith, fits-least)
+
+  -- such a table of n slots
+  pub sized : (n : ℕ) → n ≡ l / 6 → (l ≡ n * 6) × (n ≤ 4096)
+  sized n en = rw en (sixes, slots-most)

@@ -1,12 +1,10 @@
 -- The fares of a tree, written in their order.
 use mathlib.Core.Path.{◌≡◌, refl, sym, ◌∙◌}
-use mathlib.Core.Bool.{Bool, true, false, not}
+use mathlib.Core.Bool.{Bool, true, false}
 use mathlib.Core.List.{List, [], ◌∷◌, ◌++◌}
 use Prim.Native.Nat.{ℕ, zero, suc, ◌+◌, ◌-◌, ◌*◌, ◌≤◌}
 use native.Mathlib.Omega.{arith}
 use native.Mathlib.Nat.{add-zero, not-suc-le-zero}
-use native.Mathlib.Numerals.{add-one}
-use borrow.Author.Tests.{not-true, not-false}
 use lib.ListN.{length, set, length-append}
 use lib.Seq.{sets}
 use Rattle.terms.specs.declared.Rec.{Rec}
@@ -36,18 +34,6 @@ sets_append [] ws l i = rw (add-zero i) refl
 sets_append (a ∷ vs) ws l i =
     let e : i + suc (length vs) ≡ suc i + length vs = omega arith in
     rw e (sets_append vs ws (set l i a) (suc i))
-
--- the line of one record
-module _ (r : Rec) (at : ℕ) (room : List ℕ) (b : Bool) (eb : b ≡ is_fare r) where
-  pub no_line : not b ≡ true → Line r at room at room
-  no_line t = let e : is_fare r ≡ false = sym eb ∙ not-true b t in record { next = rw e (omega arith); lines = rw e refl }
-
-  module _ (f : not b ≡ false) where
-    pub line_in : at + 2 * one (is_fare r) ≤ length room → at + 2 ≤ length room
-    line_in h = let e : is_fare r ≡ true = sym eb ∙ not-false b f in rw e at h
-
-    pub one_line : Line r at room (at + 2) (set (set room at r.number) (at + 1) r.price)
-    one_line = let e : is_fare r ≡ true = sym eb ∙ not-false b f in record { next = rw e refl; lines = rw (e, add-one at) refl }
 
 -- gas that lasts does not matter
 pub gas-leaf : (k : ℕ) (v : View) (s : ℕ) → is_leaf (v s) ≡ true → tree_from k v s ≡ leaf s (v s)

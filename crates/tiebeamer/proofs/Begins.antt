@@ -76,8 +76,8 @@ module _ (w : List ℕ) (i : ℕ) (k : Task) (b : Bool) (eb : b ≡ work_settles
   unfolding abandoned_out if_b
   let_go e es = simp (← eb, e) (rw (es, ex, m_by w, u_by w) refl)
 
-pub room_for_one : (w : List ℕ) (b : Bool) → b ≡ sound (state_by w) → not b ≡ false → get_or w 121 0 ≤ 1000000
-room_for_one w b eb e = u_bounded w (sym eb ∙ not-false b e)
+pub room_for_one : (w : List ℕ) (b : Bool) → b ≡ sound (state_by w) → b ≡ true → get_or w 121 0 ≤ 1000000
+room_for_one w b eb e = u_bounded w (sym eb ∙ e)
 
 -- tidy leaves the state as it is
 tidied-state : (t : List ℕ) (st : State) (r : Reached) → (tidy_reached t st r).state ≡ st

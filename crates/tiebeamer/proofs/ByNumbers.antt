@@ -1,12 +1,10 @@
 -- A step on a state that stays in its numbers: a turn stored, and what a step hands back.
 use mathlib.Core.Path.{◌≡◌, refl}
-use mathlib.Core.Bool.{Bool, true, false, not, ◌&&◌}
+use mathlib.Core.Bool.{Bool, true, false, ◌&&◌}
 use mathlib.Core.List.{List}
 use Prim.Native.Nat.{ℕ, ◌+◌, ◌≤◌}
 use native.Mathlib.Omega.{arith}
-use lib.Dec.{eqb, leb}
-use borrow.Author.Tests.{leb-true, not-false}
-use Rattle.std.proofs.lemmas.Grind.{common_steps}
+use lib.Dec.{eqb}
 use lib.ListN.{get_or}
 use Rattle.terms.specs.declared.Task.{Task}
 use Rattle.terms.specs.declared.State.{State}
@@ -16,18 +14,16 @@ use Rattle.terms.specs.declared.Job.{Job}
 use Rattle.terms.specs.declared.Phase.{Phase}
 use Rattle.terms.specs.declared.Work.{Work}
 use Rattle.terms.specs.declared.Work.TheVariants.{Busy}
-use Rattle.terms.specs.declared.Outcome.{Outcome}
 use Rattle.terms.specs.declared.Turn.{Turn}
 use Rattle.terms.specs.declared.Turn.TheVariants.{Hurt, Next, Done}
-use Rattle.terms.specs.declared.Out.{Out}
 use Rattle.terms.specs.Task.{idle_task}
-use Rattle.machine.specs.State.{one, settling, count_open, sound, job_fits}
+use Rattle.machine.specs.State.{one, sound, job_fits}
 use Rattle.machine.specs.Choice.{if_b}
-use Rattle.machine.specs.Table.{view, slots}
-use Rattle.machine.proofs.Tests.{both_first, both-second}
+use Rattle.machine.proofs.Tests.{both_first}
+use Rattle.machine.proofs.Sound.{m_small, u_small}
 use Rattle.machine.specs.Answers.{number_of}
-use Rattle.machine.specs.Contract.{after, acted, played, turned_out}
-use Rattle.machine.specs.Step.{carried, phase_step, step_work}
+use Rattle.machine.specs.Contract.{after, turned_out}
+use Rattle.machine.specs.Step.{step_work}
 use Rattle.statecode.specs.Code.{state_by}
 use Rattle.statecode.specs.Own.{storing}
 
@@ -56,25 +52,14 @@ module _ (st : State) (i : ℕ) (a : Turn) (c : Bool) where
     unfolding turned_out
     done_turn b e y ey es = rw (e, es, ex, em, eu, ey) refl
 
--- a sound state's counts are small
-module _ (st : State) (e : sound st ≡ true) where
-  m_small : st.m ≤ 1000000
-  unfolding sound
-  m_small = leb-true _ _ (both_first (leb st.m 1000000) _ e)
-
-  u_small : st.u ≤ 1000000
-  unfolding sound count_open
-  u_small =
-      let h : st.u + settling st.tasks 8 ≤ st.m = leb-true _ _ (both-second (leb st.m 1000000) _ e) in
-      omega (arith, m_small)
-
+-- a sound state's counts are small, as numbers too
 pub u_bounded : (w : List ℕ) → sound (state_by w) ≡ true → get_or w 121 0 ≤ 1000000
 u_bounded w e = rw (u_by w) (u_small (state_by w) e)
 
 -- a step of a task, the state read out of numbers
-module _ (w : List ℕ) (b c : Bool) (eb : b ≡ sound (state_by w)) (e : not (b && c) ≡ false) where
+module _ (w : List ℕ) (b c : Bool) (eb : b ≡ sound (state_by w)) (e : (b && c) ≡ true) where
   is_sound : sound (state_by w) ≡ true
-  is_sound = rw eb at (both_first b c (not-false (b && c) e))
+  is_sound = rw eb at (both_first b c e)
 
   pub m_most : get_or w 120 0 ≤ 1000000
   m_most = rw (m_by w) (m_small (state_by w) is_sound)
@@ -82,14 +67,8 @@ module _ (w : List ℕ) (b c : Bool) (eb : b ≡ sound (state_by w)) (e : not (b
   pub u_most : get_or w 121 0 ≤ 1000000
   u_most = u_bounded w is_sound
 
--- a step of a busy task: of a state that is not sound, or a job out of range; and of one that does its phase's step
+-- a step of a busy task: of a state that is not sound, or a job out of range
 module _ (t : List ℕ) (st : State) (i : ℕ) (w : Work) (j : Job) (f : Phase) (ew : w ≡ Busy j f) (b : Bool) (eb : b ≡ sound st) (c : Bool) (ec : c ≡ job_fits j) where
-  pub damaged_row : not (b && c) ≡ true → after t (record { state = st; answer = Damaged }) ≡ step_work t st i w
+  pub damaged_row : (b && c) ≡ false → after t (record { state = st; answer = Damaged }) ≡ step_work t st i w
   unfolding after step_work if_b
   damaged_row e = simp (ew, ← eb, ← ec, e)
-
-  pub goes_row :
-      not (b && c) ≡ false → (n : ℕ) → n ≡ slots t → (t' : List ℕ) (o : Outcome) → acted t' o ≡ played t (phase_step (view n t) n st.m j f)
-      → (r : Out) → r ≡ turned_out st i o.turn o.committed → after t' r ≡ step_work t st i w
-  unfolding after acted played turned_out carried step_work if_b
-  goes_row e n en t' o eo r er = simp (ew, ← eb, ← ec, e, ← en) (grind (arith, common_steps))

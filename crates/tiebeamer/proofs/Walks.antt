@@ -1,6 +1,6 @@
 -- A step of a task that walks, by its first seven numbers.
 use mathlib.Core.Path.{◌≡◌, refl, sym, ap, ◌∙◌}
-use mathlib.Core.Bool.{Bool, true, false, not, ◌&&◌}
+use mathlib.Core.Bool.{Bool, true, false, ◌&&◌}
 use mathlib.Core.List.{List, ◌++◌}
 use Prim.Native.Nat.{ℕ, zero, suc, ◌+◌, ◌*◌, ◌≤◌}
 use native.Mathlib.Nat.{add-zero}
@@ -40,7 +40,8 @@ use Rattle.statecode.specs.Walking.{no_notes, put_first}
 use Rattle.statecode.proofs.Own.{eight, later, ends}
 use Rattle.statecode.proofs.Walking.{task_row, phase_row_lem, row_at, walker-stored, walker-own}
 use Rattle.tiebeamer.specs.Numbers.{out_by, from_of, grand_of, Walks}
-use Rattle.tiebeamer.proofs.ByNumbers.{hurt-turn, next-turn, damaged_row, goes_row}
+use Rattle.stepping.proofs.Carrying.{goes_row}
+use Rattle.tiebeamer.proofs.ByNumbers.{hurt-turn, next-turn, damaged_row}
 
 start-by : (r : List ℕ) → get_or r 0 0 ≡ 1 → task_by r ≡ busy (job_by r) (Start (goal_by (get_or r 3 0)))
 unfolding task_by phase_by if_b
@@ -150,13 +151,13 @@ module _ (w : List ℕ) (i : ℕ) (k : Walker) (walks : Walks w i k) where
     abbrev Stepped : Out → Type 0
     Stepped r = after t r ≡ step_work t (state_by w) i (task_at (state_by w) i).work
 
-    pub damaged_walk : not (b && c) ≡ true → Stepped (out_by w Damaged)
+    pub damaged_walk : (b && c) ≡ false → Stepped (out_by w Damaged)
     damaged_walk h =
         by_phase (Stepped (out_by w Damaged))
         (λ e. damaged_row t (state_by w) i _ k.job _ (ap (λ (z : Task). z.work) (at-start e)) b eb c ec h)
         (λ e. damaged_row t (state_by w) i _ k.job _ (ap (λ (z : Task). z.work) (at-walk e)) b eb c ec h)
 
-    module _ (h : not (b && c) ≡ false) (n : ℕ) (en : n ≡ slots t) where
+    module _ (h : (b && c) ≡ true) (n : ℕ) (en : n ≡ slots t) where
       abbrev Does : Phase → Turn → Type 0
       Does f x = phase_step (view n t) n (state_by w).m k.job f ≡ calm x
 

@@ -2,21 +2,20 @@
 use mathlib.Core.Path.{◌≡◌, refl, ◌∙◌}
 use mathlib.Core.Bool.{true, false, not}
 use mathlib.Core.List.{List, ◌++◌}
-use Prim.Native.Nat.{ℕ, ◌+◌, ◌-◌, ◌*◌, ◌≤◌, ◌<◌}
+use Prim.Native.Nat.{ℕ, ◌+◌, ◌-◌, ◌*◌, ◌≤◌}
 use native.Mathlib.Nat.{zero-add}
 use native.Mathlib.Omega.{arith}
-use borrow.Author.Tests.{not-true, not-false, lt-ltb, le-ltb}
+use borrow.Author.Tests.{not-false, le-ltb}
 use lib.ListN.{length, drop}
 use lib.Seq.{sets, sets-eq}
 use Rattle.terms.specs.declared.Rec.{Rec}
 use Rattle.terms.specs.declared.State.{State}
 use Rattle.terms.specs.declared.Report.{Report}
-use Rattle.terms.specs.declared.Answer.TheVariants.{Accepted, NoRoom, Damaged}
+use Rattle.terms.specs.declared.Answer.TheVariants.{Accepted}
 use Rattle.machine.specs.Choice.{if_b}
-use Rattle.machine.specs.Contract.{after}
-use Rattle.machine.specs.Table.{view, puts}
+use Rattle.machine.specs.Table.{view}
 use Rattle.machine.specs.Reach.{Tree, Reached, hurt, reached, reach, count_fares, fare_list}
-use Rattle.machine.specs.Calls.{sweep, tidy_reached, no_report, figures_reached, list_reached}
+use Rattle.machine.specs.Calls.{figures_reached, list_reached}
 use Rattle.reach.specs.declared.Below.{Below}
 use Rattle.reach.specs.Tree.{size, tree_from}
 use Rattle.reach.specs.Down.{Tells, All}
@@ -25,24 +24,6 @@ use Rattle.reach.proofs.Lines.{list_length}
 use Rattle.reach.proofs.Grown.{Grown, all_grown}
 use Rattle.whole.specs.Whole.{reported, listed}
 use Rattle.whole.proofs.Front.{slots-are}
-
-module _ (t : List ℕ) (st : State) (n : ℕ) (en : length t ≡ n * 6) (p : Rec) (k : ℕ) (b : Below) (m : List ℕ) where
-  tidy-hurt_at : (x : Reached) → Tells p k b m x → b.fine ≡ false → after t (record { state = st; answer = Damaged }) ≡ tidy_reached t st x
-  unfolding after tidy_reached
-  tidy-hurt_at hurt e f = refl
-  tidy-hurt_at (reached u j) e f = clash b.fine e.fine f
-
-  tidy-fine_at :
-      (x : Reached) → Tells p k b m x → b.fine ≡ true → (later : List ℕ) → later ≡ puts t (sweep m n 0)
-      → after later (record { state = st; answer = Accepted }) ≡ tidy_reached t st x
-  unfolding after tidy_reached
-  tidy-fine_at hurt e f later el = clash b.fine f e
-  tidy-fine_at (reached u j) e f later el = rw (el, e.marks, slots-are t n en) refl
-
-  figures-hurt_at : (x : Reached) → Tells p k b m x → b.fine ≡ false → no_report Damaged ≡ figures_reached t st x
-  unfolding figures_reached
-  figures-hurt_at hurt e f = refl
-  figures-hurt_at (reached u j) e f = clash b.fine e.fine f
 
 module _ (t : List ℕ) (st : State) (n : ℕ) (en : length t ≡ n * 6) (k : ℕ) (b : Below) (m : List ℕ) where
   figures-fine_at : (x : Reached) → Tells (view n t 0) k b m x → b.fine ≡ true → reported t n st b ≡ figures_reached t st x
@@ -55,16 +36,6 @@ whole_room : (w : Tree) (room : List ℕ) → 2 * count_fares w ≤ length room 
 whole_room w room h = sets-eq (fare_list w) room 0 (omega (arith, list_length w)) ∙ rw (zero-add (length (fare_list w))) refl
 
 module _ (room : List ℕ) (p : Rec) (k : ℕ) (b : Below) (m : List ℕ) where
-  list-hurt_at : (x : Reached) → Tells p k b m x → b.fine ≡ false → listed Damaged room ≡ list_reached room x
-  unfolding listed list_reached
-  list-hurt_at hurt e f = refl
-  list-hurt_at (reached u j) e f = clash b.fine e.fine f
-
-  list-short_at : (x : Reached) → Tells p k b m x → b.fine ≡ true → length room < 2 * b.fares → listed NoRoom room ≡ list_reached room x
-  unfolding listed list_reached if_b
-  list-short_at hurt e f h = clash b.fine f e
-  list-short_at (reached u j) e f h = simp (← e.fares, lt-ltb _ _ h)
-
   module _ (w : Tree) where
     list-fits_at : (x : Reached) → Tells p k b m x → Grown w x → b.fine ≡ true → (size w ≤ k) × (b.fares ≡ count_fares w)
     list-fits_at hurt e g f = clash b.fine f e
@@ -81,28 +52,11 @@ module _ (room : List ℕ) (p : Rec) (k : ℕ) (b : Below) (m : List ℕ) where
 
 -- the exits, in the words of the code
 module _ (t : List ℕ) (st : State) (n : ℕ) (en : length t ≡ n * 6) (b : Below) (m : List ℕ) (a : All (view n t) n b m) where
-  pub tidy-hurt : not b.fine ≡ true → after t (record { state = st; answer = Damaged }) ≡ tidy_reached t st (reach n (view n t))
-  tidy-hurt f = tidy-hurt_at t st n en (view n t 0) (n - 1) b m (reach n (view n t)) a.same (not-true b.fine f)
-
-  pub tidy-fine :
-      not b.fine ≡ false → (later : List ℕ) → later ≡ puts t (sweep m n 0)
-      → after later (record { state = st; answer = Accepted }) ≡ tidy_reached t st (reach n (view n t))
-  tidy-fine f later l = tidy-fine_at t st n en (view n t 0) (n - 1) b m (reach n (view n t)) a.same (not-false b.fine f) later l
-
-  pub figures-hurt : not b.fine ≡ true → (r : Report) → r ≡ no_report Damaged → r ≡ figures_reached t st (reach n (view n t))
-  figures-hurt f r e = e ∙ figures-hurt_at t st n en (view n t 0) (n - 1) b m (reach n (view n t)) a.same (not-true b.fine f)
-
   pub figures-fine : not b.fine ≡ false → (r : Report) → r ≡ reported t n st b → r ≡ figures_reached t st (reach n (view n t))
   figures-fine f r e = e ∙ figures-fine_at t st n en (n - 1) b m (reach n (view n t)) a.same (not-false b.fine f)
 
 module _ (t : List ℕ) (n : ℕ) (room : List ℕ) (b : Below) (m : List ℕ) (a : All (view n t) n b m) where
-  pub list-hurt : not b.fine ≡ true → listed Damaged room ≡ list_reached room (reach n (view n t))
-  list-hurt f = list-hurt_at room (view n t 0) (n - 1) b m (reach n (view n t)) a.same (not-true b.fine f)
-
   module _ (f : not b.fine ≡ false) where
-    pub list-short : length room < 2 * b.fares → listed NoRoom room ≡ list_reached room (reach n (view n t))
-    list-short h = list-short_at room (view n t 0) (n - 1) b m (reach n (view n t)) a.same (not-false b.fine f) h
-
     module _ (h : 2 * b.fares ≤ length room) (e : Rec) (ee : e ≡ view n t 0) where
       hangs : (size (tree_from n (view n t) e.left) ≤ n - 1) × (b.fares ≡ count_fares (tree_from n (view n t) e.left))
       hangs = rw ee (list-fits_at room (view n t 0) (n - 1) b m _ (reach n (view n t)) a.same (all_grown n (view n t)) (not-false b.fine f))

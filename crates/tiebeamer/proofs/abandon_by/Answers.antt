@@ -1,4 +1,4 @@
-use Rattle.std.proofs.Common.{◌≡◌, ap, not, arith}
+use Rattle.std.proofs.Common.{◌≡◌, arith}
 use Rattle.std.proofs.lemmas.Grind.{common_steps}
 use Rattle.terms.specs.declared.Answer.TheVariants.{Accepted, PutUnsettled}
 use Rattle.machine.specs.Choice.{if_b}
@@ -10,7 +10,7 @@ use Rattle.tiebeamer.proofs.Begins.{given-up, let_go, room_for_one}
 use Rattle.tiebeamer.proofs.abandon_by.Goals as goal
 
 pub overflow_add-u : goal.overflow_add-u
-overflow_add-u c = omega (arith, room_for_one c.args.w.now _ c.is_sound_by.ensures (ap not c.if-not-is_sound_by.false))
+overflow_add-u c = omega (arith, room_for_one c.args.w.now _ c.is_sound_by.ensures c.if-not-is_sound_by.false)
 
 pub returns-then-settles : goal.returns-then-settles
 unfolding after abandon_of if_b

@@ -1,4 +1,3 @@
-use Rattle.std.proofs.Common.{ap, not}
 use Rattle.tiebeamer.proofs.ByNumbers.{m_by, u_by, m_most, u_most}
 use Rattle.tiebeamer.proofs.step_work_by.Goals as goal
 
@@ -9,6 +8,6 @@ store_turn-requires c = (
   c.requires.4,
   m_by _,
   u_by _,
-  m_most _ _ _ c.is_sound_by.ensures (ap not c.if-not-is_sound_by-job_fits.false),
-  u_most _ _ _ c.is_sound_by.ensures (ap not c.if-not-is_sound_by-job_fits.false),
+  m_most _ _ _ c.is_sound_by.ensures c.if-not-is_sound_by-job_fits.false,
+  u_most _ _ _ c.is_sound_by.ensures c.if-not-is_sound_by-job_fits.false,
 )
