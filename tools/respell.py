@@ -4,7 +4,7 @@
 usage: python3 tools/respell.py [--list | --rest]     at the top of the repository, once, after the kit's port.py
 
 A definition `heldAt` becomes `held_at`. A fact `Demand-2` becomes `Demand2`. In a lemma's name the dash behind the
-longest definition's name that it begins with stays, as in `put-fill`, and any other dash becomes an underscore.
+longest definition's name that it begins with stays, as in `height-longest`, and any other dash becomes an underscore.
 Then the names that stand inside a record or a module (the rest) get underscores throughout, as `on_the_walk`. Names that
 the check makes (in proofs/F/) and names of src/ stay. --list prints the first pairs and changes nothing; --rest turns the rest
 alone.
