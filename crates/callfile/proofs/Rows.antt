@@ -10,7 +10,7 @@ use Rattle.terms.specs.declared.State.{State}
 use Rattle.terms.specs.declared.Out.{Out}
 use Rattle.terms.specs.declared.Call.{Call}
 use Rattle.terms.specs.declared.Answer.TheVariants.{Accepted}
-use Rattle.machine.specs.Answers.{number_of}
+use Rattle.terms.specs.Answers.{number_of}
 use Rattle.machine.specs.Contract.{after}
 use Rattle.machine.specs.Step.{Left, step_of}
 use Rattle.machine.specs.CallFile.{decode, run_of, serve, line_of, record_of}

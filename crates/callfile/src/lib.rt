@@ -3,7 +3,7 @@
 
 ghost use Rattle.std.specs.Prelude.{◌≡◌, ◌&&◌, not, ◌+◌, ◌-◌, ◌*◌, ◌≤◌, ◌<◌, length};
 ghost use Rattle.machine.specs.Contract.{after};
-ghost use Rattle.machine.specs.Answers.{price_of};
+ghost use Rattle.terms.specs.Answers.{price_of};
 ghost use Rattle.machine.specs.CallFile.{job_of, no_job, begins, steps, abandons, tidies, operation_of, by_operation, decode, run_of, serve, printed, line_of, record_of};
 ghost use Rattle.callfile.specs.Line.{numbers, served};
 

@@ -10,7 +10,7 @@ use native.Mathlib.Nat.{add-zero}
 use native.Mathlib.Omega.{arith}
 use Rattle.demand2.proofs.After.{newly, task_after}
 use Rattle.history.specs.Ledger.{Account, Commit, Open, begun, committed, ends, lost_one, one_unsettled, open_at, put, put_ins, put_stepped, shut, stepped, take, take_stepped, unsettled, with_open}
-use Rattle.machine.specs.Answers.{number_of}
+use Rattle.terms.specs.Answers.{number_of}
 use Rattle.machine.specs.Choice.{if_b}
 use Rattle.machine.specs.Commit.{Did, calm}
 use Rattle.machine.specs.State.{one, task_at}

@@ -19,7 +19,7 @@ use Rattle.history.specs.History.{Ask, abandon, begin, figures, left, list, rese
 use Rattle.history.specs.Ledger.{Account, Open, Point, abandoned_by, begun, ends, entered, one_unsettled, open_at, opening, shut, unsettled, with_open}
 use Rattle.history.specs.Machine.{real}
 use Rattle.machine.proofs.Choice.{if_elim}
-use Rattle.machine.specs.Answers.{number_of}
+use Rattle.terms.specs.Answers.{number_of}
 use Rattle.machine.specs.Calls.{abandon_of, abandoned_out, begin_of, empty_table, figures_of, list_of, reset_of, sweep, tidy_of, tidy_reached}
 use Rattle.machine.specs.Choice.{if_b}
 use Rattle.machine.specs.Commit.{Did}

@@ -13,7 +13,7 @@ use Rattle.history.specs.History.{Ask, begin, step, tidy}
 use Rattle.history.specs.Ledger.{Point, abandoned_by, added, advance, ends, entered, goes, history, put_ins, put_stepped, removed, started, stepped, still_open, take_stepped, written}
 use Rattle.history.specs.Machine.{Machine}
 use Rattle.machine.specs.Allowed.{allowed_rank, at_most, fib, fibonacci}
-use Rattle.machine.specs.Answers.{number_of}
+use Rattle.terms.specs.Answers.{number_of}
 use Rattle.machine.specs.Calls.{abandon_of, abandoned_out, begin_of, empty_table, figures_of, figures_reached, list_of, list_reached, reset_of, sweep, tidy_of, tidy_reached}
 use Rattle.machine.specs.Choice.{if_b}
 use Rattle.machine.specs.Commit.{commit_if, reading}

@@ -1,7 +1,7 @@
 -- WRONG MACHINES: each is the real one but for one line; `refusing` alone answers every call otherwise.
 use Rattle.std.specs.Prelude.{◌+◌, ℕ, eqb, length, Bool, false, true, List, [], ◌∷◌}
 use Rattle.history.specs.Machine.{Machine, with_step}
-use Rattle.machine.specs.Answers.{number_of}
+use Rattle.terms.specs.Answers.{number_of}
 use Rattle.machine.specs.Calls.{abandon_of, begin_of, empty_table, figures_of, list_of, no_report, reset_of, tidy_of}
 use Rattle.machine.specs.Choice.{if_b}
 use Rattle.machine.specs.State.{task_at}

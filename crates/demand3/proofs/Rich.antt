@@ -20,7 +20,7 @@ use Rattle.demand3.proofs.Roles.{cast_same, role, role_of, roles, roles-stored, 
 use Rattle.fares.proofs.Tidied.{swept, swept-carries}
 use Rattle.history.specs.History.{Ask}
 use Rattle.history.specs.Ledger.{Account, Open, Point, begun, one_unsettled, open_at, opening, shut, unsettled}
-use Rattle.machine.specs.Answers.{number_of}
+use Rattle.terms.specs.Answers.{number_of}
 use Rattle.machine.specs.Calls.{empty_table, sweep}
 use Rattle.machine.specs.Choice.{if_b}
 use Rattle.machine.specs.Commit.{Did}

@@ -14,7 +14,7 @@ use Rattle.history.specs.History.{Ask, abandon, begin, step}
 use Rattle.history.specs.Ledger.{Fare, Point, abandoned_by, added, advance, ends, entered, given, goes, history, put_stepped, removed, started, stepped, still_open, take_stepped}
 use Rattle.history.specs.Machine.{Machine, real}
 use Rattle.machine.specs.Allowed.{allowed_rank, at_most, fib, fibonacci}
-use Rattle.machine.specs.Answers.{number_of}
+use Rattle.terms.specs.Answers.{number_of}
 use Rattle.machine.specs.Calls.{abandon_of, abandoned_out, begin_of, empty_table, figures_of, figures_reached, list_of, list_reached, reset_of, sweep, tidy_of, tidy_reached}
 use Rattle.machine.specs.Choice.{if_b}
 use Rattle.machine.specs.Commit.{commit_if, reading}

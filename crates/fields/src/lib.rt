@@ -6,8 +6,9 @@ ghost use Rattle.machine.specs.Contract.{Sized};
 ghost use Rattle.machine.specs.Record.{fare_marks, inner_marks, is_link, is_inner, entry_form, in_tree, sentinel, is_leaf, well_formed, linked, level, is_fare, leads, links_of, still, other};
 ghost use Rattle.machine.specs.Table.{view, put, fill, lead, off, length_fits};
 ghost use Rattle.machine.specs.Walk.{sought, outranks};
+ghost use Rattle.fields.specs.Fitting.{fitting};
 
-use terms::{Links, Rec};
+use terms::{Links, Rec, Refusal};
 
 // Whether a table may be so many numbers long.
 #[tactic(auto, unfolding(machine::specs::Table::length_fits))]
@@ -25,6 +26,17 @@ pub fn slots_of(l: usize) -> u32
     (l / 6) as u32
 }
 
+// The slots of a table so many numbers long, or 18.
+#[tactic(auto, unfolding(crate::specs::Fitting::fitting, machine::specs::Table::length_fits, machine::specs::Choice::if_b))]
+pub fn fitting_slots(l: usize) -> Result<u32, Refusal>
+    ensures { result ≡ fitting l }
+{
+    if !length_fits(l) {
+        return Err(Refusal::Length);
+    }
+    Ok(slots_of(l))
+}
+
 // A record by value. Beyond the table it reads as a free one.
 #[tactic(auto, unfolding(machine::specs::Table::view, machine::specs::Table::place, machine::specs::Choice::if_b))]
 pub fn load(t: &[u32], n: u32, s: u32) -> Rec
@@ -32,14 +44,7 @@ pub fn load(t: &[u32], n: u32, s: u32) -> Rec
     ensures { result ≡ view n t.now s }
 {
     if n <= s {
-        return Rec {
-            state: 0,
-            number: 0,
-            price: 0,
-            rank: 0,
-            left: 0,
-            right: 0,
-        };
+        return Rec::default();
     }
     let i = s as usize * 6;
     Rec {
@@ -94,9 +99,9 @@ pub fn put_lead(t: &mut [u32], n: u32, s: u32, left: bool, to: u32)
     let i = s as usize * 6;
     if left {
         t[i + 4] = to;
-        return;
+    } else {
+        t[i + 5] = to;
     }
-    t[i + 5] = to;
 }
 
 #[tactic(auto, unfolding(machine::specs::Record::in_tree))]
@@ -223,7 +228,7 @@ pub fn lead_to(a: Links, s: u32) -> bool
 pub fn is_still(r: Rec, a: Links) -> bool
     ensures { result ≡ still r a }
 {
-    (r.state == 1) & ((r.left == a.left) & (r.right == a.right))
+    in_tree(r) & (links_of(r) == a)
 }
 
 // The link on the side of the number sought.
@@ -231,10 +236,7 @@ pub fn is_still(r: Rec, a: Links) -> bool
 pub fn sought_link(k: u32, r: Rec) -> u32
     ensures { result ≡ sought k r }
 {
-    if k < r.number {
-        return r.left;
-    }
-    r.right
+    if k < r.number { r.left } else { r.right }
 }
 
 // The link that does not lead to s.
@@ -242,10 +244,7 @@ pub fn sought_link(k: u32, r: Rec) -> u32
 pub fn other_link(b: Links, s: u32) -> u32
     ensures { result ≡ other b s }
 {
-    if b.left == s {
-        return b.right;
-    }
-    b.left
+    if b.left == s { b.right } else { b.left }
 }
 
 // One less, and 0 at 0: a rank, a depth.

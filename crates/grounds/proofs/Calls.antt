@@ -9,7 +9,7 @@ use Rattle.terms.specs.declared.Job.{Job}
 use Rattle.terms.specs.declared.Operation.{Operation}
 use Rattle.terms.specs.declared.Out.{Out}
 use Rattle.terms.specs.declared.State.{State}
-use Rattle.machine.specs.Answers.{number_of}
+use Rattle.terms.specs.Answers.{number_of}
 use Rattle.machine.specs.Contract.{after}
 use Rattle.machine.specs.Table.{length_fits}
 use Rattle.machine.specs.State.{task_at}

@@ -8,7 +8,7 @@ use mathlib.Core.Logic.{inl, inr}
 use Rattle.terms.specs.declared.Job.{Job}
 use Rattle.terms.specs.declared.Operation.{Operation}
 use Rattle.terms.specs.declared.State.{State}
-use Rattle.machine.specs.Answers.{number_of}
+use Rattle.terms.specs.Answers.{number_of}
 use Rattle.machine.specs.Step.{step_of}
 use Rattle.machine.specs.Calls.{reset_of, begin_of, abandon_of, tidy_of, figures_of, list_of}
 use Rattle.machine.proofs.Tests.{both_first, both-second}

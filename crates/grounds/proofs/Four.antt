@@ -8,7 +8,7 @@ use Rattle.terms.specs.declared.Rec.{Rec}
 use Rattle.terms.specs.declared.Task.{Task}
 use Rattle.terms.specs.declared.Turn.{Turn}
 use Rattle.machine.specs.Choice.{if_b}
-use Rattle.machine.specs.Answers.{number_of}
+use Rattle.terms.specs.Answers.{number_of}
 use Rattle.machine.specs.Commit.{reading, Did, commit_if}
 use Rattle.machine.specs.Step.{answered}
 use Rattle.grounds.specs.Order.{Refusal, Among}

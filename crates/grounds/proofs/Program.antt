@@ -10,7 +10,7 @@ use lib.ListN.{length}
 use Rattle.terms.specs.declared.State.{State}
 use Rattle.terms.specs.declared.Call.{Call}
 use Rattle.terms.specs.declared.Call.TheVariants.{Begin, Steps, Abandon, Tidy, Bad}
-use Rattle.machine.specs.Answers.{number_of}
+use Rattle.terms.specs.Answers.{number_of}
 use Rattle.machine.specs.Step.{Left, step_of}
 use Rattle.machine.specs.CallFile.{two, four, no_job, begins, steps, abandons, tidies, operation_of, by_operation, decode, run_of, serve}
 use Rattle.machine.proofs.Choice.{if_elim}

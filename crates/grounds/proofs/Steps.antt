@@ -11,7 +11,7 @@ use Rattle.terms.specs.declared.Work.TheVariants.{Idle, Busy}
 use Rattle.terms.specs.declared.Phase.{Phase}
 use Rattle.terms.specs.declared.Phase.TheVariants.{Start, Walk, PuttingIn, TakingOut, Settling}
 use Rattle.terms.specs.Task.{is_busy}
-use Rattle.machine.specs.Answers.{number_of}
+use Rattle.terms.specs.Answers.{number_of}
 use Rattle.machine.specs.Record.{number_fits}
 use Rattle.machine.specs.Table.{view, slots}
 use Rattle.machine.specs.State.{task_at, sound, job_fits}

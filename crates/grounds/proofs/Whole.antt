@@ -10,7 +10,7 @@ use lib.ListN.{length}
 use Rattle.terms.specs.declared.State.{State}
 use Rattle.terms.specs.declared.Report.{Report}
 use Rattle.machine.specs.Choice.{if_b}
-use Rattle.machine.specs.Answers.{number_of}
+use Rattle.terms.specs.Answers.{number_of}
 use Rattle.machine.specs.Table.{view, slots}
 use Rattle.machine.specs.State.{sound}
 use Rattle.machine.specs.Reach.{Tree, Reached, hurt, reached, reach, count_fares}

@@ -9,7 +9,7 @@ use Rattle.terms.specs.declared.Goal.TheVariants.{Settle}
 use Rattle.terms.specs.declared.Phase.TheVariants.{Start}
 use Rattle.terms.specs.declared.State.{State}
 use Rattle.terms.specs.Task.{busy}
-use Rattle.machine.specs.Answers.{number_of}
+use Rattle.terms.specs.Answers.{number_of}
 use Rattle.machine.specs.Allowed.{fibonacci, fib, at_most, allowed_rank}
 use Rattle.machine.specs.Calls.{empty_table, reset_of, begin_of, abandoned_out, abandon_of, sweep, tidy_reached, tidy_of, figures_reached, figures_of, list_reached, list_of}
 use Rattle.machine.specs.Choice.{if_b}

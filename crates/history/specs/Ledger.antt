@@ -6,7 +6,7 @@ use Rattle.terms.specs.declared.Operation.TheVariants.{LookUp, PutIn, TakeOut}
 use Rattle.terms.specs.declared.State.{State}
 use Rattle.terms.specs.Task.{work_settles}
 use Rattle.machine.specs.Choice.{if_b}
-use Rattle.machine.specs.Answers.{number_of}
+use Rattle.terms.specs.Answers.{number_of}
 use Rattle.machine.specs.State.{task_at}
 use Rattle.machine.specs.Step.{Left}
 use Rattle.history.specs.Machine.{Machine}

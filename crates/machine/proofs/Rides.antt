@@ -26,7 +26,7 @@ use Rattle.terms.specs.declared.Answer.{Answer}
 use Rattle.machine.specs.Choice.{if_b}
 use Rattle.machine.specs.Record.{in_tree, sentinel, number_fits, price_fits, fare_marks, inner_marks, is_link, is_leaf, is_inner, plain_form, entry_form, well_formed, linked, level, is_fare, leads, still, other}
 use Rattle.machine.specs.Table.{View, view, Write, fill, lead, off, place, slots, count_free, length_fits, put, puts, free_from, free, slot1, slot2, slot3}
-use Rattle.machine.specs.Answers.{number_of, price_of}
+use Rattle.terms.specs.Answers.{number_of, price_of}
 use Rattle.terms.specs.Task.{idle_task, is_busy}
 use Rattle.machine.specs.State.{task_at, with_task, fresh_state, settling, busy_tasks, count_open, sound, job_fits, ask_fits}
 use Rattle.machine.specs.Walk.{sought, at_leaf, serve_arrival, outranks, settle_arrival, arrival, walk_to, walk_from, walk_on}

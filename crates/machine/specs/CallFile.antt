@@ -10,7 +10,7 @@ use Rattle.terms.specs.declared.Answer.TheVariants.{Accepted, BadRecord}
 use Rattle.terms.specs.declared.Call.{Call}
 use Rattle.terms.specs.declared.Call.TheVariants.{Begin, Steps, Abandon, Tidy, Bad}
 use Rattle.machine.specs.Choice.{if_b}
-use Rattle.machine.specs.Answers.{number_of, price_of}
+use Rattle.terms.specs.Answers.{number_of, price_of}
 use Rattle.machine.specs.State.{fresh_state}
 use Rattle.machine.specs.Step.{Left, same, step_of}
 use Rattle.machine.specs.Calls.{reset_of, begin_of, abandon_of, tidy_of, figures_of}

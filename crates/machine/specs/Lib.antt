@@ -1,7 +1,6 @@
 pub mod Choice
 pub mod Record
 pub mod Table
-pub mod Answers
 pub mod State
 pub mod Walk
 pub mod Commit

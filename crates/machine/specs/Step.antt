@@ -12,7 +12,7 @@ use Rattle.terms.specs.declared.Answer.TheVariants.{Accepted, TaskNumber, TaskId
 use Rattle.terms.specs.declared.Turn.{Turn}
 use Rattle.terms.specs.declared.Turn.TheVariants.{Hurt, Next, Done}
 use Rattle.machine.specs.Choice.{if_b}
-use Rattle.machine.specs.Answers.{number_of}
+use Rattle.terms.specs.Answers.{number_of}
 use Rattle.machine.specs.Table.{View, view, puts, length_fits, slots}
 use Rattle.terms.specs.Task.{idle_task, no_grand}
 use Rattle.machine.specs.State.{task_at, one, sound, job_fits}

@@ -14,7 +14,7 @@ use Rattle.demand3.specs.Demand3.{figures_at}
 use Rattle.history.specs.History.{Ask, begin, step}
 use Rattle.history.specs.Ledger.{Account, Point, advance, history, started}
 use Rattle.history.specs.Machine.{real}
-use Rattle.machine.specs.Answers.{number_of}
+use Rattle.terms.specs.Answers.{number_of}
 use Rattle.machine.specs.Calls.{begin_of}
 use Rattle.machine.specs.State.{count_open, task_at}
 use Rattle.machine.specs.Step.{Left}

@@ -12,7 +12,7 @@ use Rattle.demand3.proofs.Rich.{Rich}
 use Rattle.history.specs.History.{Ask, step}
 use Rattle.history.specs.Ledger.{Point, advance, goes}
 use Rattle.history.specs.Machine.{Machine, real}
-use Rattle.machine.specs.Answers.{number_of}
+use Rattle.terms.specs.Answers.{number_of}
 use Rattle.machine.specs.Choice.{if_b}
 use Rattle.machine.specs.State.{count_open, task_at}
 use Rattle.machine.specs.Step.{answered}

@@ -19,7 +19,7 @@ use Rattle.fares.specs.Fares.{fares, leaf_fares}
 use Rattle.history.specs.History.{Ask, begin, step}
 use Rattle.history.specs.Ledger.{Account, Fare, Point, advance, given, history}
 use Rattle.history.specs.Machine.{real}
-use Rattle.machine.specs.Answers.{number_of}
+use Rattle.terms.specs.Answers.{number_of}
 use Rattle.machine.specs.Calls.{begin_of}
 use Rattle.machine.specs.Choice.{if_b}
 use Rattle.machine.specs.Record.{top_number}

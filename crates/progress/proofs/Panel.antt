@@ -10,7 +10,7 @@ use native.Mathlib.Omega.{arith}
 use Rattle.history.specs.History.{step}
 use Rattle.history.specs.Ledger.{Point, advance, goes}
 use Rattle.history.specs.Machine.{real}
-use Rattle.machine.specs.Answers.{number_of}
+use Rattle.terms.specs.Answers.{number_of}
 use Rattle.machine.specs.CallFile.{run_of}
 use Rattle.machine.specs.Step.{Left, step_of}
 use Rattle.progress.proofs.Alone.{tasks_end}

@@ -11,7 +11,7 @@ use Rattle.demand3.proofs.Rich.{Rich}
 use Rattle.history.specs.History.{step}
 use Rattle.history.specs.Ledger.{Point, advance}
 use Rattle.history.specs.Machine.{real}
-use Rattle.machine.specs.Answers.{number_of}
+use Rattle.terms.specs.Answers.{number_of}
 use Rattle.machine.specs.Choice.{if_b}
 use Rattle.machine.specs.Commit.{Did, calm}
 use Rattle.machine.specs.State.{count_open, one, task_at}

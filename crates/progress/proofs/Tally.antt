@@ -11,7 +11,7 @@ use Rattle.demand2.proofs.Passes.{Looks, Passes, abandons, begins, looks, refuse
 use Rattle.demand2.proofs.Stands.{Stands}
 use Rattle.history.specs.History.{Ask, abandon, begin, figures, list, reset, step, tidy}
 use Rattle.history.specs.Ledger.{Account, Point}
-use Rattle.machine.specs.Answers.{number_of}
+use Rattle.terms.specs.Answers.{number_of}
 use Rattle.machine.specs.Choice.{if_b}
 use Rattle.machine.specs.Commit.{Did}
 use Rattle.machine.specs.State.{one}

@@ -4,7 +4,7 @@ use Rattle.demand3.specs.Demand3.{figures_at}
 use Rattle.history.specs.History.{Ask, begin, step}
 use Rattle.history.specs.Ledger.{Point, advance, given, goes, history}
 use Rattle.history.specs.Machine.{Machine}
-use Rattle.machine.specs.Answers.{number_of}
+use Rattle.terms.specs.Answers.{number_of}
 use Rattle.terms.specs.declared.Answer.TheVariants.{Accepted}
 use Rattle.terms.specs.declared.Job.{Job}
 use Rattle.terms.specs.declared.Operation.TheVariants.{LookUp}

@@ -5,7 +5,7 @@ use Rattle.demand3.specs.Demand3.{figures_at}
 use Rattle.history.specs.History.{Ask, begin}
 use Rattle.history.specs.Ledger.{Point, advance, history}
 use Rattle.history.specs.Machine.{real}
-use Rattle.machine.specs.Answers.{number_of}
+use Rattle.terms.specs.Answers.{number_of}
 use Rattle.machine.specs.CallFile.{run_of}
 use Rattle.machine.specs.Calls.{begin_of}
 use Rattle.progress.specs.Alone.{FoundOrNot}

@@ -4,7 +4,7 @@ use Rattle.demand3.specs.Demand3.{c_at}
 use Rattle.history.specs.History.{Ask, abandon, begin, figures, left, list, reset, step, tidy}
 use Rattle.history.specs.Ledger.{Point, advance, history, started}
 use Rattle.history.specs.Machine.{Machine}
-use Rattle.machine.specs.Answers.{number_of}
+use Rattle.terms.specs.Answers.{number_of}
 use Rattle.machine.specs.Choice.{if_b}
 use Rattle.machine.specs.State.{one, task_at}
 use Rattle.machine.specs.Step.{Left}

@@ -9,7 +9,7 @@ use Rattle.terms.specs.declared.Task.{Task}
 use Rattle.terms.specs.declared.State.{State}
 use Rattle.terms.specs.declared.Out.{Out}
 use Rattle.terms.specs.declared.Report.{Report}
-use Rattle.machine.specs.Answers.{number_of}
+use Rattle.terms.specs.Answers.{number_of}
 use Rattle.machine.specs.Contract.{after}
 use Rattle.machine.specs.Step.{Left}
 use Rattle.machine.specs.Reach.{Reached, hurt, reached}

@@ -37,7 +37,7 @@ use Rattle.terms.specs.declared.ParentRow.TheVariants.{Outranked, Promote, Wider
 use Rattle.terms.specs.declared.LevelRow.{LevelRow}
 use Rattle.terms.specs.declared.LevelRow.TheVariants.{NoRow, RotateOne, RotateTwo, DoubleRotation}
 use Rattle.terms.specs.Task.{idle_task, restarted, no_grand}
-use Rattle.machine.specs.Answers.{number_of}
+use Rattle.terms.specs.Answers.{number_of}
 use Rattle.machine.specs.State.{with_task}
 use Rattle.machine.specs.Table.{View, view, slots, Write, puts}
 use Rattle.machine.specs.Walk.{at_leaf, serve_arrival, settle_arrival, arrival, walk_to, walk_from, walk_on}

@@ -1,21 +1,29 @@
--- What the scan finds, with the order of the slots that callers need.
-use Rattle.std.specs.Prelude.{◌≡◌, ℕ, ◌≤◌, ◌<◌, ◌+◌}
-use Rattle.machine.specs.Table.{View, free, slot1, slot2, slot3}
-use Rattle.room.specs.declared.Pair.{Pair}
-use Rattle.room.specs.declared.Triple.{Triple}
+-- What the scan finds: the lowest free slots in their order.
+use Rattle.std.specs.Prelude.{◌≡◌, ℕ, zero, suc, ◌≤◌, ◌<◌, ◌+◌, List, [], ◌∷◌, ◌++◌, Some, None}
+use Rattle.std.specs.declared.option.Option.{Option}
+use Rattle.machine.specs.Table.{View, free}
 
-pub record Found (v : View) (n from s : ℕ) : Type 0 where
-  pub later : from ≤ s
-  pub near : s ≤ from + n
-  pub lowest : s ≡ free v n from
+-- the lowest free slot from a slot on, if there is one below n
+abbrev pub Found : View → ℕ → ℕ → Option ℕ → Type 0
+Found v n from None = n ≤ free v n from
+Found v n from (Some s) = (s ≡ free v n from) × (from ≤ s) × (s < n)
 
-pub record TwoSlots (v : View) (n : ℕ) (s : Pair) : Type 0 where
-  pub first : s.first ≡ slot1 v n
-  pub second : s.second ≡ slot2 v n
-  pub up : s.first < s.second
+-- where the scan goes on behind the k lowest free slots
+abbrev pub behind : View → ℕ → ℕ → ℕ
+behind v n zero = 1
+behind v n (suc k) = free v n (behind v n k) + 1
 
-pub record ThreeSlots (v : View) (n : ℕ) (s : Triple) : Type 0 where
-  pub first : s.first ≡ slot1 v n
-  pub second : s.second ≡ slot2 v n
-  pub third : s.third ≡ slot3 v n
-  pub up : (s.first < s.second) × (s.second < s.third)
+-- "New records take the lowest-numbered free slots": the first k of them
+abbrev pub lowest : View → ℕ → ℕ → List ℕ
+lowest v n zero = []
+lowest v n (suc k) = lowest v n k ++ free v n (behind v n k) ∷ []
+
+-- they are slots of a table of n slots
+abbrev pub AllBelow : ℕ → List ℕ → Type 0
+AllBelow n [] = Unit {0}
+AllBelow n (s ∷ ss) = (s < n) × AllBelow n ss
+
+-- the k lowest free slots, or there are not so many
+abbrev pub FreeSlots : View → ℕ → ℕ → Option (List ℕ) → Type 0
+FreeSlots v n k None = n < behind v n k
+FreeSlots v n k (Some xs) = (xs ≡ lowest v n k) × AllBelow n xs

@@ -1,91 +1,44 @@
 // Room: the lowest-numbered free slots, and how many there are.
 #![tactic(auto)]
 
-ghost use Rattle.std.specs.Prelude.{◌≡◌, ◌+◌, ◌-◌, ◌*◌, ◌≤◌, ◌<◌, eqb, length};
-ghost use Rattle.machine.specs.Choice.{if_b};
+ghost use Rattle.std.specs.Prelude.{◌≡◌, ◌+◌, ◌-◌, ◌*◌, ◌≤◌, ◌<◌, length};
 ghost use Rattle.machine.specs.Contract.{Sized};
-ghost use Rattle.machine.specs.Table.{view, free, count_free, slot1};
-ghost use Rattle.room.specs.Found.{Found, TwoSlots, ThreeSlots};
+ghost use Rattle.machine.specs.Table.{view, count_free};
+ghost use Rattle.room.specs.Found.{Found, FreeSlots};
 
 use fields::state_at;
 
 // The lowest free slot from a slot on; at or past the end there is none.
 #[tactic(auto, using(machine::proofs::Scan::scan_end, machine::proofs::Scan::scan_hit, machine::proofs::Scan::scan_miss))]
-fn free_from(t: &[u32], n: u32, from: u32) -> u32
-    requires { Sized t.now n × (from ≤ 8195) }
+fn free_from(t: &[u32], n: u32, from: u32) -> Option<u32>
+    requires { Sized t.now n × (from ≤ 4096) }
     ensures { Found (view n t.now) n from result }
 {
     let mut i = from;
-    let s = loop {
+    loop {
         if n <= i {
-            break i;
+            break None;
         }
         if state_at(t, n, i) == 0 {
-            break i;
+            break Some(i);
         }
         i += 1;
-    };
-    s
-}
-
-// Two slots, in the order in which new records take them.
-#[derive(Clone, Copy)]
-pub struct Pair {
-    pub first: u32,
-    pub second: u32,
-}
-
-#[derive(Clone, Copy)]
-pub struct Triple {
-    pub first: u32,
-    pub second: u32,
-    pub third: u32,
-}
-
-#[tactic(auto, unfolding(machine::specs::Table::slot1, machine::specs::Choice::if_b))]
-pub fn one_slot(t: &[u32], n: u32) -> u32
-    requires { Sized t.now n }
-    ensures { result ≡ slot1 (view n t.now) n }
-{
-    free_from(t, n, 1)
-}
-
-#[tactic(auto, unfolding(machine::specs::Table::slot1, machine::specs::Table::slot2))]
-pub fn two_slots(t: &[u32], n: u32) -> Pair
-    requires { Sized t.now n }
-    ensures { TwoSlots (view n t.now) n result }
-{
-    let first = free_from(t, n, 1);
-    let second = free_from(t, n, first + 1);
-    Pair {
-        first: first,
-        second: second,
     }
 }
 
-#[tactic(auto, unfolding(machine::specs::Table::slot1, machine::specs::Table::slot2, machine::specs::Table::slot3))]
-pub fn three_slots(t: &[u32], n: u32) -> Triple
+// The N lowest free slots, in the order in which new records take them, if there are so many.
+pub fn free_slots<const N: usize>(t: &[u32], n: u32) -> Option<[u32; N]>
     requires { Sized t.now n }
-    ensures { ThreeSlots (view n t.now) n result }
+    ensures { FreeSlots (view n t.now) n N result }
 {
-    let first = free_from(t, n, 1);
-    let second = free_from(t, n, first + 1);
-    let third = free_from(t, n, second + 1);
-    Triple {
-        first: first,
-        second: second,
-        third: third,
+    let mut slots = [0; N];
+    let mut from = 1;
+    for i in 0..N {
+        let s = free_from(t, n, from)?;
+        slots[i] = s;
+        from = s + 1;
     }
-}
-
-#[tactic(auto, unfolding(machine::specs::Choice::if_b))]
-fn one_if_free(state: u32) -> u32
-    ensures { (result ≡ if_b (eqb state 0) 1 0) × (result ≤ 1) }
-{
-    if state == 0 {
-        return 1;
-    }
-    0
+    Some(slots)
 }
 
 // How many slots are in state 0.
@@ -94,11 +47,11 @@ pub fn count_free(t: &[u32], n: u32) -> u32
     requires { Sized t.now n }
     ensures { result ≡ count_free (view n t.now) n }
 {
-    let mut count: u32 = 0;
-    let mut i: u32 = 0;
-    while i < n {
-        count += one_if_free(state_at(t, n, i));
-        i += 1;
+    let mut count = 0;
+    for s in 0..n {
+        if state_at(t, n, s) == 0 {
+            count += 1;
+        }
     }
     count
 }

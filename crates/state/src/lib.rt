@@ -2,48 +2,25 @@
 #![tactic(auto)]
 
 ghost use Rattle.std.specs.Prelude.{◌≡◌, ◌&&◌, ◌+◌, ◌-◌, ◌*◌, ◌≤◌, ◌<◌};
-ghost use Rattle.machine.specs.State.{one, settling, busy_tasks, sound, job_fits, ask_fits, may_price, with_task, fresh_state};
+ghost use Rattle.machine.specs.State.{settling, busy_tasks, sound, job_fits, ask_fits, may_price, with_task, fresh_state};
 ghost use Rattle.machine.specs.Contract.{turned_out};
-ghost use Rattle.machine.specs.Answers.{number_of};
 ghost use Rattle.machine.specs.Step.{counted};
+ghost use Rattle.state.specs.Refused.{place_of, or_refused};
 
-use terms::{Answer, Job, Operation, Out, State, Task, Turn, Work};
-
-pub fn one_if(b: bool) -> u32
-    ensures { (result ≡ one b) × (result ≤ 1) }
-{
-    if b {
-        return 1;
-    }
-    0
-}
+use terms::{Answer, Job, Operation, Out, Refusal, State, Task, Turn};
 
 // How many tasks settle.
 pub fn count_settling(st: State) -> u32
     ensures { (result ≡ settling st.tasks 8) × (result ≤ 8) }
 {
-    let mut n: u32 = 0;
-    let mut i: usize = 0;
-    while i < 8 {
-        let k = st.tasks[i];
-        n += one_if(k.settles());
-        i += 1;
-    }
-    n
+    st.tasks.iter().filter(|k| k.settles()).count() as u32
 }
 
 // How many tasks are busy.
 pub fn count_busy(st: State) -> u32
     ensures { (result ≡ busy_tasks st.tasks 8) × (result ≤ 8) }
 {
-    let mut n: u32 = 0;
-    let mut i: usize = 0;
-    while i < 8 {
-        let k = st.tasks[i];
-        n += one_if(k.is_busy());
-        i += 1;
-    }
-    n
+    st.tasks.iter().filter(|k| k.is_busy()).count() as u32
 }
 
 // Whether m is in range and c is at most m.
@@ -65,11 +42,7 @@ pub fn job_fits(j: Job) -> bool
 fn may_price(o: Operation) -> bool
     ensures { result ≡ may_price o }
 {
-    match o {
-        Operation::LookUp => false,
-        Operation::PutIn => true,
-        Operation::TakeOut => false,
-    }
+    matches!(o, Operation::PutIn)
 }
 
 #[tactic(auto, unfolding(machine::specs::State::ask_fits))]
@@ -77,31 +50,6 @@ pub fn ask_fits(o: Operation, j: Job) -> bool
     ensures { result ≡ ask_fits o j }
 {
     job_fits(j) & (may_price(o) | (j.price == 0))
-}
-
-// The paper's number of an answer.
-pub fn number_of(a: Answer) -> u32
-    ensures { result ≡ number_of a }
-{
-    match a {
-        Answer::Accepted => 0,
-        Answer::Found(_) => 1,
-        Answer::NotHeld => 2,
-        Answer::PutSettled => 3,
-        Answer::HeldAlready => 4,
-        Answer::TakenOut => 5,
-        Answer::PutUnsettled => 6,
-        Answer::TaskNumber => 10,
-        Answer::OutOfRange => 11,
-        Answer::TaskBusy => 12,
-        Answer::TaskIdle => 13,
-        Answer::SomeBusy => 14,
-        Answer::NoRoom => 15,
-        Answer::Limit => 16,
-        Answer::Damaged => 17,
-        Answer::Length => 18,
-        Answer::BadRecord => 19,
-    }
 }
 
 // A task is stored.
@@ -138,16 +86,40 @@ pub fn turn_out(st: State, i: usize, a: Turn, committed: bool) -> Out
             answer: Answer::Damaged,
         },
         Turn::Next(k) => Out {
-            state: with_counts(st, i, k, one_if(committed), 0),
+            state: with_counts(st, i, k, u32::from(committed), 0),
             answer: Answer::Accepted,
         },
         Turn::Done(b) => {
-            let more = one_if(number_of(b) == 6);
+            let more = u32::from(matches!(b, Answer::PutUnsettled));
             Out {
-                state: with_counts(st, i, Task { work: Work::Idle }, one_if(committed), more),
+                state: with_counts(st, i, Task::idle(), u32::from(committed), more),
                 answer: b,
             }
         }
+    }
+}
+
+// A task's number as its place, or 10.
+#[tactic(auto, unfolding(crate::specs::Refused::place_of, machine::specs::Choice::if_b))]
+pub fn task_place(i: u32) -> Result<usize, Refusal>
+    ensures { result ≡ place_of i }
+{
+    if 7 < i {
+        return Err(Refusal::TaskNumber);
+    }
+    Ok(i as usize)
+}
+
+// What a call hands back, or its refusal with the state as it was.
+pub fn or_refused(st: State, r: Result<Out, Refusal>) -> Out
+    ensures { result ≡ or_refused st r }
+{
+    match r {
+        Ok(o) => o,
+        Err(e) => Out {
+            state: st,
+            answer: e.into(),
+        },
     }
 }
 
@@ -155,9 +127,8 @@ pub fn turn_out(st: State, i: usize, a: Turn, committed: bool) -> Out
 pub fn fresh_state() -> State
     ensures { result ≡ fresh_state }
 {
-    let k = Task::idle();
     State {
-        tasks: [k; 8],
+        tasks: [Task::idle(); 8],
         m: 0,
         u: 0,
     }

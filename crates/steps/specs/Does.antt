@@ -2,7 +2,7 @@
 use Rattle.std.specs.Prelude.{◌<◌, ℕ, Bool, false, true, List, ◌⊎◌, ◌≡◌}
 use Rattle.commits.proofs.Acts.{settles, takes_out}
 use Rattle.commits.proofs.Sight.{Changed, PutChanged}
-use Rattle.machine.specs.Answers.{number_of}
+use Rattle.terms.specs.Answers.{number_of}
 use Rattle.machine.specs.Choice.{if_b}
 use Rattle.machine.specs.Commit.{Did, calm}
 use Rattle.machine.specs.Table.{View, Write}

@@ -15,7 +15,7 @@ use Rattle.grounds.specs.Ways.{link_on}
 use Rattle.history.specs.History.{Ask, abandon, begin, figures, list, reset, step, tidy}
 use Rattle.history.specs.Ledger.{Account, Point, advance, goes}
 use Rattle.history.specs.Machine.{real}
-use Rattle.machine.specs.Answers.{number_of}
+use Rattle.terms.specs.Answers.{number_of}
 use Rattle.machine.specs.Record.{links_of}
 use Rattle.machine.specs.State.{task_at}
 use Rattle.machine.specs.Step.{Left}

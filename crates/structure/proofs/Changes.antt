@@ -18,7 +18,7 @@ use Rattle.grounds.specs.Ways.{link_on}
 use Rattle.history.specs.History.{Ask, abandon, begin, figures, left, list, reset, step, tidy}
 use Rattle.history.specs.Ledger.{Account, Point, advance}
 use Rattle.history.specs.Machine.{real}
-use Rattle.machine.specs.Answers.{number_of}
+use Rattle.terms.specs.Answers.{number_of}
 use Rattle.machine.specs.Calls.{tidy_of, tidy_reached}
 use Rattle.machine.specs.Choice.{if_b}
 use Rattle.machine.specs.Commit.{Did}

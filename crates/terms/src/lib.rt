@@ -2,10 +2,12 @@
 #![tactic(auto)]
 
 ghost use Rattle.std.specs.Prelude.{◌≡◌};
+ghost use Rattle.terms.specs.Answers.{number_of, price_of, answer_of};
+ghost use Rattle.terms.specs.Operations.{operation_at};
 ghost use Rattle.terms.specs.Task.{idle_task, begun, noted, noted_put, noted_take, noted_settle, noted_phase, goal_of, restarted, abandoned, goal_settles, work_settles, is_busy};
 
 // A slot of the table: six numbers.
-#[derive(Clone, Copy)]
+#[derive(Clone, Copy, Default)]
 pub struct Rec {
     pub state: u32,
     pub number: u32,
@@ -16,14 +18,14 @@ pub struct Rec {
 }
 
 // Both links of a record, as a reading notes them.
-#[derive(Clone, Copy)]
+#[derive(Clone, Copy, PartialEq, Eq, Default)]
 pub struct Links {
     pub left: u32,
     pub right: u32,
 }
 
 // The last three records of a walk. `grand` is 4,294,967,295 while there is no grandparent: the parent is the entry.
-#[derive(Clone, Copy)]
+#[derive(Clone, Copy, Default)]
 pub struct Path {
     pub grand: u32,
     pub parent: u32,
@@ -128,6 +130,27 @@ pub enum Answer {
     BadRecord,
 }
 
+// The refusals of document 01, as the error of what can be refused.
+#[derive(Clone, Copy)]
+pub enum Refusal {
+    TaskNumber,
+    OutOfRange,
+    TaskBusy,
+    TaskIdle,
+    SomeBusy,
+    NoRoom,
+    Limit,
+    Damaged,
+    Length,
+    BadRecord,
+}
+
+// A number that names no operation.
+#[derive(Clone, Copy)]
+pub struct NoOperation {
+    pub number: u32,
+}
+
 // What a step comes to for its task: 17 and no change, another phase, or the end.
 #[derive(Clone, Copy)]
 pub enum Turn {
@@ -177,7 +200,7 @@ pub struct Around {
     pub w: u32,
 }
 
-#[derive(Clone, Copy)]
+#[derive(Clone, Copy, Default)]
 pub struct Figures {
     pub height: u32,
     pub level: u32,
@@ -277,10 +300,7 @@ impl Goal {
     pub fn settles(self) -> bool
         ensures { result ≡ goal_settles self }
     {
-        match self {
-            Goal::Serve(_) => false,
-            Goal::Settle => true,
-        }
+        matches!(self, Goal::Settle)
     }
 }
 
@@ -304,8 +324,7 @@ impl Task {
     pub fn noted(self, l: Links) -> Task
         ensures { result ≡ noted self l }
     {
-        let w = self.work;
-        match w {
+        match self.work {
             Work::Idle => Task { work: Work::Idle },
             Work::Busy(j, f) => Task {
                 work: Work::Busy(j, f.noted(l)),
@@ -317,8 +336,7 @@ impl Task {
     pub fn restarted(self) -> Task
         ensures { result ≡ restarted self }
     {
-        let w = self.work;
-        match w {
+        match self.work {
             Work::Idle => Task { work: Work::Idle },
             Work::Busy(j, f) => Task {
                 work: Work::Busy(j, Phase::Start(f.goal())),
@@ -335,20 +353,89 @@ impl Task {
     pub fn is_busy(self) -> bool
         ensures { result ≡ is_busy self.work }
     {
-        let w = self.work;
-        match w {
-            Work::Idle => false,
-            Work::Busy(_, _) => true,
-        }
+        matches!(self.work, Work::Busy(_, _))
     }
 
     pub fn settles(self) -> bool
         ensures { result ≡ work_settles self.work }
     {
-        let w = self.work;
-        match w {
+        match self.work {
             Work::Idle => false,
             Work::Busy(_, f) => f.goal().settles(),
+        }
+    }
+}
+
+impl Answer {
+    // The price that an answer carries.
+    pub fn price(self) -> u32
+        ensures { result ≡ price_of self }
+    {
+        match self {
+            Answer::Found(p) => p,
+            _ => 0,
+        }
+    }
+}
+
+impl From<Refusal> for Answer {
+    ghost from_gives = { λ r a. a ≡ answer_of r };
+
+    fn from(r: Refusal) -> Answer {
+        match r {
+            Refusal::TaskNumber => Answer::TaskNumber,
+            Refusal::OutOfRange => Answer::OutOfRange,
+            Refusal::TaskBusy => Answer::TaskBusy,
+            Refusal::TaskIdle => Answer::TaskIdle,
+            Refusal::SomeBusy => Answer::SomeBusy,
+            Refusal::NoRoom => Answer::NoRoom,
+            Refusal::Limit => Answer::Limit,
+            Refusal::Damaged => Answer::Damaged,
+            Refusal::Length => Answer::Length,
+            Refusal::BadRecord => Answer::BadRecord,
+        }
+    }
+}
+
+// The paper's number of an answer.
+impl From<Answer> for u32 {
+    ghost from_gives = { λ a n. n ≡ number_of a };
+
+    fn from(a: Answer) -> u32 {
+        match a {
+            Answer::Accepted => 0,
+            Answer::Found(_) => 1,
+            Answer::NotHeld => 2,
+            Answer::PutSettled => 3,
+            Answer::HeldAlready => 4,
+            Answer::TakenOut => 5,
+            Answer::PutUnsettled => 6,
+            Answer::TaskNumber => 10,
+            Answer::OutOfRange => 11,
+            Answer::TaskBusy => 12,
+            Answer::TaskIdle => 13,
+            Answer::SomeBusy => 14,
+            Answer::NoRoom => 15,
+            Answer::Limit => 16,
+            Answer::Damaged => 17,
+            Answer::Length => 18,
+            Answer::BadRecord => 19,
+        }
+    }
+}
+
+// The operation that a number names.
+impl TryFrom<u32> for Operation {
+    type Error = NoOperation;
+
+    ghost try_from_gives = { λ n r. r ≡ operation_at n };
+
+    fn try_from(n: u32) -> Result<Operation, NoOperation> {
+        match n {
+            1 => Ok(Operation::LookUp),
+            2 => Ok(Operation::PutIn),
+            3 => Ok(Operation::TakeOut),
+            _ => Err(NoOperation { number: n }),
         }
     }
 }

@@ -21,7 +21,7 @@ use Rattle.machine.specs.State.{one, sound, job_fits}
 use Rattle.machine.specs.Choice.{if_b}
 use Rattle.machine.proofs.Tests.{both_first}
 use Rattle.machine.proofs.Sound.{m_small, u_small}
-use Rattle.machine.specs.Answers.{number_of}
+use Rattle.terms.specs.Answers.{number_of}
 use Rattle.machine.specs.Contract.{after, turned_out}
 use Rattle.machine.specs.Step.{step_work}
 use Rattle.statecode.specs.Code.{state_by}

@@ -14,7 +14,7 @@ use Rattle.terms.specs.declared.Work.{Work}
 use Rattle.terms.specs.declared.Work.TheVariants.{Idle, Busy}
 use Rattle.terms.specs.declared.Turn.{Turn}
 use Rattle.terms.specs.declared.Turn.TheVariants.{Hurt, Next, Done}
-use Rattle.machine.specs.Answers.{number_of}
+use Rattle.terms.specs.Answers.{number_of}
 use Rattle.machine.specs.Contract.{after}
 use Rattle.machine.specs.Commit.{Did}
 use Rattle.machine.specs.Step.{Left, turned, carried, step_work, step_of}

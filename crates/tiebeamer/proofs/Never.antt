@@ -9,7 +9,7 @@ use Rattle.terms.specs.declared.Answer.{Answer}
 use Rattle.terms.specs.declared.Answer.TheVariants.{Accepted, Found, NotHeld, PutSettled, HeldAlready, TakenOut, PutUnsettled, TaskNumber, OutOfRange, TaskBusy, TaskIdle, SomeBusy, NoRoom, Limit, Damaged, Length, BadRecord}
 use Rattle.terms.specs.declared.Report.{Report}
 use Rattle.machine.specs.Choice.{if_b}
-use Rattle.machine.specs.Answers.{number_of}
+use Rattle.terms.specs.Answers.{number_of}
 use Rattle.machine.specs.State.{fresh_state}
 use Rattle.machine.specs.Step.{Left}
 use Rattle.machine.specs.Calls.{Listed}

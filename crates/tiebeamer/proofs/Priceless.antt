@@ -7,7 +7,7 @@ use Rattle.terms.specs.declared.Operation.{Operation}
 use Rattle.terms.specs.declared.Task.{Task}
 use Rattle.terms.specs.declared.State.{State}
 use Rattle.terms.specs.declared.Out.{Out}
-use Rattle.machine.specs.Answers.{price_of}
+use Rattle.terms.specs.Answers.{price_of}
 use Rattle.machine.specs.Contract.{after}
 use Rattle.machine.specs.Step.{Left}
 use Rattle.machine.specs.Reach.{Reached, hurt, reached}

@@ -12,7 +12,7 @@ use Rattle.terms.specs.declared.Answer.{Answer}
 use Rattle.terms.specs.declared.Out.{Out}
 use Rattle.terms.specs.declared.Report.{Report}
 use Rattle.machine.specs.Choice.{if_b}
-use Rattle.machine.specs.Answers.{number_of, price_of}
+use Rattle.terms.specs.Answers.{number_of, price_of}
 use Rattle.machine.specs.Contract.{after}
 use Rattle.machine.specs.Step.{Left, step_of}
 use Rattle.machine.specs.Calls.{reset_of, begin_of, abandon_of, tidy_of, figures_of, list_of}

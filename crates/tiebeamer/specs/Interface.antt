@@ -2,7 +2,7 @@
 use Rattle.std.specs.Prelude.{ℕ, ◌&&◌, not, List, leb, eqb}
 use Rattle.terms.specs.declared.Report.{Report}
 use Rattle.machine.specs.Choice.{if_b}
-use Rattle.machine.specs.Answers.{number_of, price_of}
+use Rattle.terms.specs.Answers.{number_of, price_of}
 use Rattle.machine.specs.Step.{Left, step_of}
 use Rattle.machine.specs.Calls.{Listed, reset_of, begin_of, abandon_of, tidy_of, figures_of, list_of}
 use Rattle.machine.specs.CallFile.{operation_of, end_line, run_of}

@@ -7,7 +7,7 @@ ghost use Rattle.std.specs.Prelude.{◌≡◌, true, false, ◌≤◌, ◌<◌, 
 ghost use Rattle.machine.specs.Contract.{Sized, after, turned_out};
 ghost use Rattle.machine.specs.Step.{step_work, step_of};
 ghost use Rattle.machine.specs.Table.{slots};
-ghost use Rattle.machine.specs.Answers.{number_of};
+ghost use Rattle.terms.specs.Answers.{number_of};
 ghost use Rattle.machine.specs.Calls.{begin_of, abandon_of};
 ghost use Rattle.machine.specs.CallFile.{end_line, run_of};
 ghost use Rattle.statecode.specs.Code.{encode, is_state, state_by, goal_by};

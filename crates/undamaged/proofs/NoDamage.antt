@@ -22,7 +22,7 @@ use Rattle.history.specs.History.{Ask, abandon, begin, figures, left, list, rese
 use Rattle.history.specs.Ledger.{Point, advance, goes, history, opening, started}
 use Rattle.history.specs.Machine.{real}
 use Rattle.machine.proofs.Choice.{if_elim}
-use Rattle.machine.specs.Answers.{number_of}
+use Rattle.terms.specs.Answers.{number_of}
 use Rattle.machine.specs.Calls.{Listed, abandon_of, abandoned_out, begin_of, empty_table, figures_of, list_of, reset_of, tidy_of, tidy_reached}
 use Rattle.machine.specs.Choice.{if_b}
 use Rattle.machine.specs.Commit.{Did}

@@ -4,7 +4,7 @@ use Rattle.std.specs.Prelude.{◌*◌, ◌≤◌, ℕ, length, List, ◌≡◌}
 use Rattle.history.specs.History.{Ask, left}
 use Rattle.history.specs.Ledger.{history}
 use Rattle.history.specs.Machine.{Machine}
-use Rattle.machine.specs.Answers.{number_of}
+use Rattle.terms.specs.Answers.{number_of}
 use Rattle.terms.specs.declared.State.{State}
 
 -- the histories of demand 2: the reset call on any table of 6 times 8 to 4,096 numbers and any state, any calls with any arguments; c is one call more

@@ -1,10 +1,11 @@
-use Rattle.std.proofs.Common.{arith, sym}
-use Rattle.machine.proofs.Count.{none-busy, one-more_busy}
+use Rattle.std.proofs.Common.{rules, ◌≡◌, ◌∙◌, arith, count_by, length}
+use Rattle.std.proofs.lemmas.List.Sums.{count_by-le-length}
+use Rattle.terms.specs.Task.{is_busy}
+use Rattle.machine.proofs.Count.{busy_counted}
 use Rattle.state.proofs.count_busy.Goals as goal
 
-pub loop-i-init : goal.loop-i-init
-loop-i-init c = (omega arith, omega arith, none-busy _)
-
-pub loop-i-preserved : goal.loop-i-preserved
-loop-i-preserved c =
-    (omega arith, omega arith, rw (c.one_if-n.ensures.0, c.is_busy.ensures, c.loop-i.invariant.2) (sym (one-more_busy _ _)))
+pub returns : goal.returns
+returns c =
+    let counted : c.count.result ≡ count_by (λ k. is_busy k.work) c.args.st.tasks = search rules in
+    let eight : length c.args.st.tasks ≡ 8 = search rules in
+    (counted ∙ busy_counted _ eight, omega (arith, counted, eight, count_by-le-length (λ k. is_busy k.work) c.args.st.tasks))

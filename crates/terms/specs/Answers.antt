@@ -1,5 +1,7 @@
 -- ANSWERS AND REFUSALS. This paper's number and price for each case.
 use Rattle.std.specs.Prelude.{ℕ}
+use Rattle.terms.specs.declared.Refusal.{Refusal}
+use Rattle.terms.specs.declared.Refusal.TheVariants as R
 use Rattle.terms.specs.declared.Answer.{Answer}
 use Rattle.terms.specs.declared.Answer.TheVariants.{Accepted, Found, NotHeld, PutSettled, HeldAlready, TakenOut, PutUnsettled, TaskNumber, OutOfRange, TaskBusy, TaskIdle, SomeBusy, NoRoom, Limit, Damaged, Length, BadRecord}
 
@@ -42,3 +44,16 @@ price_of Limit = 0
 price_of Damaged = 0
 price_of Length = 0
 price_of BadRecord = 0
+
+-- a refusal, as the answer that it is
+abbrev pub answer_of : Refusal → Answer
+answer_of R.TaskNumber = TaskNumber
+answer_of R.OutOfRange = OutOfRange
+answer_of R.TaskBusy = TaskBusy
+answer_of R.TaskIdle = TaskIdle
+answer_of R.SomeBusy = SomeBusy
+answer_of R.NoRoom = NoRoom
+answer_of R.Limit = Limit
+answer_of R.Damaged = Damaged
+answer_of R.Length = Length
+answer_of R.BadRecord = BadRecord
