@@ -8,6 +8,9 @@ ghost use Rattle.machine.specs.Table.{view, put, fill, lead, off, length_fits};
 ghost use Rattle.machine.specs.Walk.{sought, outranks};
 ghost use Rattle.terms.specs.declared.Refusal.TheVariants.{Length};
 
+mod slots;
+
+pub use slots::{Slots, SlotsMut};
 use terms::{Links, Rec, Refusal};
 
 // Whether a table may be so many numbers long.
