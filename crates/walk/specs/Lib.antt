@@ -1,1 +1,3 @@
 pub mod Arrived
+pub mod Reads
+pub mod Stopped
