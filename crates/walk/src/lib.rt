@@ -3,8 +3,7 @@
 
 ghost use Rattle.std.specs.Prelude.{◌≡◌, ◌+◌, ◌-◌, ◌*◌, ◌≤◌, ◌<◌};
 ghost use Rattle.terms.specs.Task.{busy};
-ghost use Rattle.machine.specs.Contract.{Sized};
-ghost use Rattle.machine.specs.Table.{view};
+ghost use Rattle.fields.specs.Writes.{seen};
 ghost use Rattle.machine.specs.Walk.{at_leaf, serve_arrival, settle_arrival, arrival, walk_to, walk_from, walk_on};
 ghost use Rattle.machine.specs.Commit.{reading, Did, commit_if};
 ghost use Rattle.terms.specs.declared.Goal.TheVariants.{Serve, Settle};
@@ -14,7 +13,7 @@ ghost use Rattle.walk.specs.Stopped.{or_stopped, or_calm};
 ghost use Rattle.machine.proofs.Writes.{calmly};
 
 use fields::{
-    in_tree, is_leaf, is_level, is_linked, lead_to, links_of, load, outranks, sought_link,
+    Slots, in_tree, is_leaf, is_level, is_linked, lead_to, links_of, outranks, sought_link,
     well_formed,
 };
 use terms::{
@@ -114,12 +113,12 @@ fn arrive(g: Goal, j: Job, q: Path, p: Rec, h: Rec) -> Arrival
 
 // The record arrived at is read; p is the one that the walk left.
 #[tactic(auto, unfolding(crate::specs::Arrived::turn_at, machine::specs::Walk::walk_to, machine::specs::Choice::if_b))]
-fn walk_to(t: &[u32], n: u32, g: Goal, j: Job, q: Path, p: Rec) -> Arrival
-    requires { Sized t.now n × (p ≡ view n t.now q.parent) }
-    ensures { turn_at g j q result ≡ walk_to (view n t.now) n g j q }
+fn walk_to(t: &Slots, g: Goal, j: Job, q: Path, p: Rec) -> Arrival
+    requires { p ≡ seen t.now q.parent }
+    ensures { turn_at g j q result ≡ walk_to (seen t.now) t.now.n g j q }
 {
-    let h = load(t, n, q.here);
-    if is_linked(n, q.here, h) {
+    let h = t.at(q.here);
+    if is_linked(t.n, q.here, h) {
         arrive(g, j, q, p, h)
     } else {
         Arrival::Lost
@@ -128,12 +127,11 @@ fn walk_to(t: &[u32], n: u32, g: Goal, j: Job, q: Path, p: Rec) -> Arrival
 
 // One step of a walk: it leaves slot s, whose parent is the slot grand.
 #[tactic(auto, unfolding(crate::specs::Arrived::turn_at, machine::specs::Walk::walk_from, crate::specs::Arrived::left_to, machine::specs::Choice::if_b))]
-pub fn walk_out(t: &[u32], n: u32, g: Goal, j: Job, grand: u32, s: u32) -> Gone
-    requires { Sized t.now n }
-    ensures { (turn_at g j (record { grand = grand; parent = s; here = result.to }) result.at ≡ walk_from (view n t.now) n g j grand s) × (result.to ≡ left_to (view n t.now) n j.number s) }
+pub fn walk_out(t: &Slots, g: Goal, j: Job, grand: u32, s: u32) -> Gone
+    ensures { (turn_at g j (record { grand = grand; parent = s; here = result.to }) result.at ≡ walk_from (seen t.now) t.now.n g j grand s) × (result.to ≡ left_to (seen t.now) t.now.n j.number s) }
 {
-    let p = load(t, n, s);
-    if !well_formed(n, s, p) {
+    let p = t.at(s);
+    if !well_formed(t.n, s, p) {
         return Gone {
             to: 0,
             at: Arrival::Lost,
@@ -147,7 +145,7 @@ pub fn walk_out(t: &[u32], n: u32, g: Goal, j: Job, grand: u32, s: u32) -> Gone
     };
     Gone {
         to,
-        at: walk_to(t, n, g, j, q, p),
+        at: walk_to(t, g, j, q, p),
     }
 }
 
@@ -168,11 +166,10 @@ fn turn_at(g: Goal, j: Job, q: Path, a: Arrival) -> Turn
 
 // The same step as a turn of its task.
 #[tactic(auto, unfolding(machine::specs::Walk::walk_from, machine::specs::Choice::if_b))]
-pub fn walk_from(t: &[u32], n: u32, g: Goal, j: Job, grand: u32, s: u32) -> Turn
-    requires { Sized t.now n }
-    ensures { result ≡ walk_from (view n t.now) n g j grand s }
+pub fn walk_from(t: &Slots, g: Goal, j: Job, grand: u32, s: u32) -> Turn
+    ensures { result ≡ walk_from (seen t.now) t.now.n g j grand s }
 {
-    let r = walk_out(t, n, g, j, grand, s);
+    let r = walk_out(t, g, j, grand, s);
     let q = Path {
         grand,
         parent: s,
@@ -183,14 +180,13 @@ pub fn walk_from(t: &[u32], n: u32, g: Goal, j: Job, grand: u32, s: u32) -> Turn
 
 // A walk that goes on from where the task stands.
 #[tactic(auto, unfolding(machine::specs::Walk::walk_on, machine::specs::Choice::if_b))]
-pub fn walk_on(t: &[u32], n: u32, g: Goal, j: Job, q: Path) -> Turn
-    requires { Sized t.now n }
-    ensures { result ≡ walk_on (view n t.now) n g j q }
+pub fn walk_on(t: &Slots, g: Goal, j: Job, q: Path) -> Turn
+    ensures { result ≡ walk_on (seen t.now) t.now.n g j q }
 {
     if q.here == 0 {
         Turn::Hurt
     } else {
-        walk_from(t, n, g, j, q.parent, q.here)
+        walk_from(t, g, j, q.parent, q.here)
     }
 }
 
@@ -209,22 +205,20 @@ pub fn read_record(k: Task, formed: bool, good: bool, r: Rec) -> Turn
 }
 
 // The reading of slot s, whose noted links must lead on to slot next.
-pub fn read_leading(t: &[u32], n: u32, k: Task, s: u32, next: u32) -> Outcome
-    requires { Sized t.now n }
-    ensures { result ≡ calmly (leading_read (view n t.now) n k s next) }
+pub fn read_leading(t: &Slots, k: Task, s: u32, next: u32) -> Outcome
+    ensures { result ≡ calmly (leading_read (seen t.now) t.now.n k s next) }
 {
-    let r = load(t, n, s);
+    let r = t.at(s);
     let good = in_tree(r) & lead_to(links_of(r), next);
-    calm_turn(read_record(k, well_formed(n, s, r), good, r))
+    calm_turn(read_record(k, well_formed(t.n, s, r), good, r))
 }
 
 // The reading of slot s, which a link leads to and which need not lead on.
-pub fn read_child(t: &[u32], n: u32, k: Task, s: u32) -> Outcome
-    requires { Sized t.now n }
-    ensures { result ≡ calmly (child_read (view n t.now) n k s) }
+pub fn read_child(t: &Slots, k: Task, s: u32) -> Outcome
+    ensures { result ≡ calmly (child_read (seen t.now) t.now.n k s) }
 {
-    let r = load(t, n, s);
-    calm_turn(read_record(k, is_linked(n, s, r), in_tree(r), r))
+    let r = t.at(s);
+    calm_turn(read_record(k, is_linked(t.n, s, r), in_tree(r), r))
 }
 
 // What stops a commit before its change: a ground of 17, or a record that changed since its reading.
