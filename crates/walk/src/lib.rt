@@ -1,7 +1,7 @@
 // The walk, and a reading: decisions on records by value, and the functions that load the records that they name.
 #![tactic(auto)]
 
-ghost use Rattle.std.specs.Prelude.{◌≡◌, ◌+◌, ◌-◌, ◌*◌, ◌≤◌, ◌<◌};
+ghost use Rattle.std.specs.Prelude.{◌≡◌, ◌+◌, ◌-◌, ◌*◌, ◌≤◌, ◌<◌, true, IfOk};
 ghost use Rattle.terms.specs.Task.{busy};
 ghost use Rattle.fields.specs.Writes.{seen};
 ghost use Rattle.machine.specs.Walk.{at_leaf, serve_arrival, settle_arrival, arrival, walk_to, walk_from, walk_on};
@@ -224,7 +224,7 @@ pub fn read_child(t: &Slots, k: Task, s: u32) -> Outcome
 // What stops a commit before its change: a ground of 17, or a record that changed since its reading.
 #[tactic(auto, unfolding(machine::specs::Commit::commit_if, machine::specs::Choice::if_b))]
 pub fn may_change(k: Task, grounds: bool, test: bool) -> Result<(), Turn>
-    ensures { (d : Did) → commit_if k grounds test d ≡ or_stopped d result }
+    ensures { ((d : Did) → commit_if k grounds test d ≡ or_stopped d result) × IfOk result (λ u. grounds ≡ true) }
 {
     if !grounds {
         Err(Turn::Hurt)
