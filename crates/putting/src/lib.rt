@@ -2,15 +2,12 @@
 #![tactic(auto)]
 
 ghost use Rattle.std.specs.Prelude.{◌≡◌, [], ◌∷◌, ◌+◌, ◌-◌, ◌*◌, ◌≤◌, ◌<◌, slice_index};
-ghost use Rattle.machine.specs.Contract.{Sized, acted, played};
-ghost use Rattle.machine.specs.Table.{view, puts};
+ghost use Rattle.fields.specs.Writes.{read, Writes, Does};
 ghost use Rattle.room.specs.Found.{AllBelow};
 ghost use Rattle.walk.specs.Stopped.{or_calm};
 ghost use Rattle.machine.specs.PutIn.{leaf_of, inner_of, inner_rank, put_grounds, put_test, put_writes, put_turn, put_room, put_commit, put_step};
 
-use fields::{
-    is_leaf, is_linked, is_still, lead_to, load, put_fill, put_lead, put_off, well_formed,
-};
+use fields::{SlotsMut, is_leaf, is_linked, is_still, lead_to, well_formed};
 use room::free_slots;
 use terms::{Answer, Goal, Job, Links, Outcome, Path, Phase, PutStage, Rec, Turn};
 use walk::{busy_in, may_change, or_calm, read_child, read_leading};
@@ -88,9 +85,9 @@ fn put_turn(j: Job, p: Rec, h: Rec) -> Turn
 
 // In the leaf's place a new inner record, whose leaves are the smaller number and the larger.
 #[tactic(auto, unfolding(machine::specs::PutIn::put_writes, machine::specs::Choice::if_b, machine::specs::Table::puts))]
-fn put_writes(t: &mut [u32], n: u32, j: Job, q: Path, left: bool, h: Rec, slots: [u32; 3])
-    requires { Sized t.old n × AllBelow n slots × (q.here < n) × (q.parent < n) }
-    ensures { t.new ≡ puts t.old (put_writes j q left h (slice_index slots 0) (slice_index slots 1) (slice_index slots 2)) }
+fn put_writes(t: &mut SlotsMut, j: Job, q: Path, left: bool, h: Rec, slots: [u32; 3])
+    requires { AllBelow t.old.n slots × (q.here < t.old.n) × (q.parent < t.old.n) }
+    ensures { Writes t.old t.new (put_writes j q left h (slice_index slots 0) (slice_index slots 1) (slice_index slots 2)) }
 {
     let [x, y, z] = slots;
     let own = leaf_of(j.number, j.price);
@@ -100,29 +97,21 @@ fn put_writes(t: &mut [u32], n: u32, j: Job, q: Path, left: bool, h: Rec, slots:
     } else {
         (j.number, old, own)
     };
-    put_fill(t, n, x, inner_of(number, inner_rank(h), y, z));
-    put_fill(t, n, y, low);
-    put_fill(t, n, z, high);
-    put_off(t, n, q.here);
-    put_lead(t, n, q.parent, left, x);
+    t.fill(x, inner_of(number, inner_rank(h), y, z));
+    t.fill(y, low);
+    t.fill(z, high);
+    t.take_off(q.here);
+    t.lead(q.parent, left, x);
 }
 
 // Room, and the writes.
 #[tactic(auto, unfolding(machine::specs::Contract::acted, machine::specs::Contract::played, machine::specs::Table::puts, machine::specs::Choice::if_b, machine::specs::PutIn::put_room, machine::specs::Table::slot1, machine::specs::Table::slot2, machine::specs::Table::slot3))]
-fn put_room(
-    t: &mut [u32],
-    n: u32,
-    j: Job,
-    q: Path,
-    left: bool,
-    p: Rec,
-    h: Rec,
-) -> Result<Outcome, Turn>
-    requires { Sized t.old n × (q.here < n) × (q.parent < n) }
-    ensures { acted t.new (or_calm result) ≡ played t.old (put_room (view n t.old) n j q left p h) }
+fn put_room(t: &mut SlotsMut, j: Job, q: Path, left: bool, p: Rec, h: Rec) -> Result<Outcome, Turn>
+    requires { (q.here < t.old.n) × (q.parent < t.old.n) }
+    ensures { Does t.old t.new (or_calm result) (put_room (read t.old) t.old.n j q left p h) }
 {
-    let slots = free_slots(t, n).ok_or(Turn::Done(Answer::NoRoom))?;
-    put_writes(t, n, j, q, left, h, slots);
+    let slots = free_slots(&t.read()).ok_or(Turn::Done(Answer::NoRoom))?;
+    put_writes(t, j, q, left, h, slots);
     Ok(Outcome {
         turn: put_turn(j, p, h),
         committed: true,
@@ -132,37 +121,34 @@ fn put_room(
 // The commit of a put-in: the limit and room are looked at after the test.
 #[tactic(auto, unfolding(machine::specs::Contract::acted, machine::specs::Contract::played, machine::specs::Table::puts, machine::specs::Choice::if_b, machine::specs::PutIn::put_commit, machine::specs::PutIn::put_limit))]
 fn put_commit(
-    t: &mut [u32],
-    n: u32,
+    t: &mut SlotsMut,
     m: u32,
     j: Job,
     q: Path,
     a: Links,
     b: Links,
 ) -> Result<Outcome, Turn>
-    requires { Sized t.old n }
-    ensures { acted t.new (or_calm result) ≡ played t.old (put_commit (view n t.old) n m j q a b) }
+    ensures { Does t.old t.new (or_calm result) (put_commit (read t.old) t.old.n m j q a b) }
 {
-    let p = load(t, n, q.parent);
-    let h = load(t, n, q.here);
+    let p = t.at(q.parent);
+    let h = t.at(q.here);
     let k = busy_in(j, Phase::PuttingIn(q, PutStage::PutCommit(a, b)));
-    may_change(k, put_grounds(n, j, q, a, p, h), put_test(a, b, p, h))?;
+    may_change(k, put_grounds(t.n, j, q, a, p, h), put_test(a, b, p, h))?;
     if 1000000 <= m {
         return Err(Turn::Done(Answer::Limit));
     }
-    put_room(t, n, j, q, a.left == q.here, p, h)
+    put_room(t, j, q, a.left == q.here, p, h)
 }
 
 // A step of a put-in that has walked: the reading of the parent, that of the leaf, the commit.
 #[tactic(auto, unfolding(machine::specs::Contract::acted, machine::specs::Contract::played, machine::specs::Table::puts, machine::specs::Choice::if_b, machine::specs::PutIn::put_step, machine::specs::PutIn::read_put_parent, machine::specs::PutIn::read_put_leaf))]
-pub fn put_step(t: &mut [u32], n: u32, m: u32, j: Job, q: Path, s: PutStage) -> Outcome
-    requires { Sized t.old n }
-    ensures { acted t.new result ≡ played t.old (put_step (view n t.old) n m j q s) }
+pub fn put_step(t: &mut SlotsMut, m: u32, j: Job, q: Path, s: PutStage) -> Outcome
+    ensures { Does t.old t.new result (put_step (read t.old) t.old.n m j q s) }
 {
     let k = busy_in(j, Phase::PuttingIn(q, s));
     match s {
-        PutStage::PutParent => read_leading(t, n, k, q.parent, q.here),
-        PutStage::PutLeaf(_) => read_child(t, n, k, q.here),
-        PutStage::PutCommit(a, b) => or_calm(put_commit(t, n, m, j, q, a, b)),
+        PutStage::PutParent => read_leading(&t.read(), k, q.parent, q.here),
+        PutStage::PutLeaf(_) => read_child(&t.read(), k, q.here),
+        PutStage::PutCommit(a, b) => or_calm(put_commit(t, m, j, q, a, b)),
     }
 }

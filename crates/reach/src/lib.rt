@@ -2,9 +2,8 @@
 #![tactic(auto)]
 
 ghost use Rattle.std.specs.Prelude.{◌≡◌, ◌&&◌, ◌+◌, ◌-◌, ◌*◌, ◌≤◌, ◌<◌, eqb, length, get_or, replicate};
-ghost use Rattle.machine.specs.Contract.{Sized};
+ghost use Rattle.fields.specs.Writes.{seen, SameTable, Writes};
 ghost use Rattle.machine.specs.Record.{in_tree, is_fare, linked};
-ghost use Rattle.machine.specs.Table.{view, puts};
 ghost use Rattle.machine.specs.Reach.{deeper};
 ghost use Rattle.machine.specs.State.{one};
 ghost use Rattle.machine.specs.Calls.{sweep};
@@ -13,7 +12,7 @@ ghost use Rattle.reach.specs.Down.{leaf_below, inner_below, Down, All};
 ghost use Rattle.reach.specs.Tree.{tree_from};
 ghost use Rattle.reach.specs.Writing.{swept, Line, RoomFor, Wrote};
 
-use fields::{in_tree, is_fare, is_leaf, is_level, is_linked, load, put_fill, well_formed};
+use fields::{Slots, SlotsMut, in_tree, is_fare, is_leaf, is_level, is_linked, well_formed};
 use terms::Rec;
 
 // What stands below a slot, its own record with it; `left` slots are not marked then.
@@ -79,55 +78,55 @@ fn inner_below(p: Rec, r: Rec, a: Below, b: Below) -> Below
 }
 
 // The way down from slot s, below p, marking each slot once; none where damage is met.
-fn down(t: &[u32], marks: &mut [u8], n: u32, p: Rec, s: u32, left: u32) -> Option<Below>
-    requires { Sized t.now n × (length marks.old ≡ n) × (left ≡ unmarked marks.old) × (left ≤ 4096) }
-    ensures { Down (view n t.now) n p s marks.old left result marks.new }
+fn down(t: &Slots, marks: &mut [u8], p: Rec, s: u32, left: u32) -> Option<Below>
+    requires { (length marks.old ≡ t.now.n) × (left ≡ unmarked marks.old) × (left ≤ 4096) }
+    ensures { Down (seen t.now) t.now.n p s marks.old left result marks.new }
 {
-    let r = load(t, n, s);
-    if !may_reach(marks, n, s, r) {
+    let r = t.at(s);
+    if !may_reach(marks, t.n, s, r) {
         return None;
     }
     marks[s as usize] = 1;
     if is_leaf(r) {
         return Some(leaf_below(p, r, left - 1));
     }
-    let a = down(t, marks, n, r, r.left, left - 1)?;
-    let b = down(t, marks, n, r, r.right, a.left)?;
+    let a = down(t, marks, r, r.left, left - 1)?;
+    let b = down(t, marks, r, r.right, a.left)?;
     Some(inner_below(p, r, a, b))
 }
 
 // All that the entry reaches, in a table whose slots have no marks yet; none where damage is met.
-pub fn reach_all(t: &[u32], marks: &mut [u8], n: u32) -> Option<Below>
-    requires { Sized t.now n × (marks.old ≡ replicate n 0) }
-    ensures { All (view n t.now) n result marks.new }
+pub fn reach_all(t: &Slots, marks: &mut [u8]) -> Option<Below>
+    requires { marks.old ≡ replicate t.now.n 0 }
+    ensures { All (seen t.now) t.now.n result marks.new }
 {
-    let e = load(t, n, 0);
-    let good = well_formed(n, 0, e) & in_tree(e);
+    let e = t.at(0);
+    let good = well_formed(t.n, 0, e) & in_tree(e);
     if !good {
         return None;
     }
     marks[0] = 1;
-    down(t, marks, n, e, e.left, n - 1)
+    down(t, marks, e, e.left, t.n - 1)
 }
 
 // A slot without a mark is set to zero.
-#[tactic(auto, unfolding(crate::specs::Writing::swept, machine::specs::Choice::if_b))]
-fn sweep_slot(t: &mut [u32], n: u32, s: u32, mark: u8)
-    requires { Sized t.old n × (s < n) }
-    ensures { t.new ≡ swept t.old s mark }
+#[tactic(auto, unfolding(crate::specs::Writing::swept, machine::specs::Table::puts, machine::specs::Choice::if_b))]
+fn sweep_slot(t: &mut SlotsMut, s: u32, mark: u8)
+    requires { s < t.old.n }
+    ensures { (t.new.numbers.now ≡ swept t.old.numbers.now s mark) × SameTable t.old t.new }
 {
     if mark == 0 {
-        put_fill(t, n, s, Rec::default());
+        t.fill(s, Rec::default());
     }
 }
 
 #[tactic(auto, using(crate::proofs::Sweep::sweeping))]
-pub fn sweep_all(t: &mut [u32], marks: &[u8], n: u32)
-    requires { Sized t.old n × (length marks.now ≡ n) }
-    ensures { t.new ≡ puts t.old (sweep marks.now n 0) }
+pub fn sweep_all(t: &mut SlotsMut, marks: &[u8])
+    requires { length marks.now ≡ t.old.n }
+    ensures { Writes t.old t.new (sweep marks.now t.old.n 0) }
 {
-    for s in 0..n {
-        sweep_slot(t, n, s, marks[s as usize]);
+    for s in 0..t.n {
+        sweep_slot(t, s, marks[s as usize]);
     }
 }
 
@@ -152,16 +151,16 @@ fn write_line(room: &mut [u32], at: usize, r: Rec) -> usize
 }
 
 // The fares below slot s, from the leftmost to the rightmost; each record visited is one slot less.
-pub fn write_fares(t: &[u32], room: &mut [u32], n: u32, s: u32, w: Written) -> Written
-    requires { Sized t.now n × RoomFor (tree_from w.left (view n t.now) s) w.left w.at room.old }
-    ensures { Wrote (tree_from w.left (view n t.now) s) w.left w.at room.old result room.new }
+pub fn write_fares(t: &Slots, room: &mut [u32], s: u32, w: Written) -> Written
+    requires { RoomFor (tree_from w.left (seen t.now) s) w.left w.at room.old }
+    ensures { Wrote (tree_from w.left (seen t.now) s) w.left w.at room.old result room.new }
 {
-    let r = load(t, n, s);
+    let r = t.at(s);
     let left = w.left - 1;
     if is_leaf(r) {
         let at = write_line(room, w.at, r);
         return Written { at, left };
     }
-    let a = write_fares(t, room, n, r.left, Written { left, ..w });
-    write_fares(t, room, n, r.right, a)
+    let a = write_fares(t, room, r.left, Written { left, ..w });
+    write_fares(t, room, r.right, a)
 }
