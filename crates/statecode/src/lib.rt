@@ -326,7 +326,7 @@ fn own_by(w: &[u32; 15], f: u32, k: u32) -> bool
         0 => clear_from::<1>(w),
         1 => own_goal(k) & clear_from::<4>(w),
         2 => own_goal(k) & clear_from::<7>(w),
-        3 => (k <= 2) & own_noted(w, k),
+        3 => k <= 2 && own_noted(w, k),
         4 | 5 => own_noted(w, k),
         _ => false,
     }
