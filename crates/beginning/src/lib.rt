@@ -4,52 +4,40 @@
 ghost use Rattle.std.specs.Prelude.{◌≡◌, ◌+◌, ◌-◌, ◌*◌, ◌/◌, ◌≤◌, ◌<◌, length};
 ghost use Rattle.machine.specs.Contract.{after};
 ghost use Rattle.machine.specs.Calls.{begin_of, abandoned_out, abandon_of};
+ghost use Rattle.state.specs.Refused.{or_refused};
 
-use fields::length_fits;
-use state::{ask_fits, is_sound, with_counts, with_task};
-use terms::{Answer, Job, Operation, Out, State, Task};
+use fields::fitting_slots;
+use state::{ask_fits, is_sound, or_refused, task_place, with_counts, with_task};
+use terms::{Answer, Job, Operation, Out, Refusal, State, Task};
+
+// Task i is busy with the operation, or the first refusal that holds.
+#[tactic(auto, unfolding(machine::specs::Contract::after, machine::specs::Calls::begin_of, machine::specs::Choice::if_b))]
+fn begun(t: &[u32], st: State, i: u32, o: Operation, j: Job) -> Result<Out, Refusal>
+    ensures { after t.now (or_refused st result) ≡ begin_of t.now st i o j }
+{
+    fitting_slots(t.len())?;
+    let at = task_place(i)?;
+    if !ask_fits(o, j) {
+        return Err(Refusal::OutOfRange);
+    }
+    let k = st.tasks[at];
+    if k.is_busy() {
+        return Err(Refusal::TaskBusy);
+    }
+    if !is_sound(st) {
+        return Err(Refusal::Damaged);
+    }
+    Ok(Out {
+        state: with_task(st, at, k.begun(o, j)),
+        answer: Answer::Accepted,
+    })
+}
 
 // Task i begins an operation.
-#[tactic(auto, unfolding(machine::specs::Contract::after, machine::specs::Calls::begin_of, machine::specs::Choice::if_b))]
 pub fn begin(t: &[u32], st: State, i: u32, o: Operation, j: Job) -> Out
     ensures { after t.now result ≡ begin_of t.now st i o j }
 {
-    if !length_fits(t.len()) {
-        return Out {
-            state: st,
-            answer: Answer::Length,
-        };
-    }
-    if 7 < i {
-        return Out {
-            state: st,
-            answer: Answer::TaskNumber,
-        };
-    }
-    if !ask_fits(o, j) {
-        return Out {
-            state: st,
-            answer: Answer::OutOfRange,
-        };
-    }
-    let at = i as usize;
-    let k = st.tasks[at];
-    if k.is_busy() {
-        return Out {
-            state: st,
-            answer: Answer::TaskBusy,
-        };
-    }
-    if !is_sound(st) {
-        return Out {
-            state: st,
-            answer: Answer::Damaged,
-        };
-    }
-    Out {
-        state: with_task(st, at, k.begun(o, j)),
-        answer: Answer::Accepted,
-    }
+    or_refused(st, begun(t, st, i, o, j))
 }
 
 // Task i, which is k, is abandoned.
@@ -70,36 +58,26 @@ fn abandon_work(st: State, i: usize, k: Task) -> Out
     }
 }
 
-// Task i is abandoned.
+// Task i is idle, or the first refusal that holds.
 #[tactic(auto, unfolding(machine::specs::Contract::after, machine::specs::Calls::abandon_of, machine::specs::Choice::if_b))]
+fn given_up(t: &[u32], st: State, i: u32) -> Result<Out, Refusal>
+    ensures { after t.now (or_refused st result) ≡ abandon_of t.now st i }
+{
+    fitting_slots(t.len())?;
+    let at = task_place(i)?;
+    let k = st.tasks[at];
+    if !k.is_busy() {
+        return Err(Refusal::TaskIdle);
+    }
+    if !is_sound(st) {
+        return Err(Refusal::Damaged);
+    }
+    Ok(abandon_work(st, at, k))
+}
+
+// Task i is abandoned.
 pub fn abandon(t: &[u32], st: State, i: u32) -> Out
     ensures { after t.now result ≡ abandon_of t.now st i }
 {
-    if !length_fits(t.len()) {
-        return Out {
-            state: st,
-            answer: Answer::Length,
-        };
-    }
-    if 7 < i {
-        return Out {
-            state: st,
-            answer: Answer::TaskNumber,
-        };
-    }
-    let at = i as usize;
-    let k = st.tasks[at];
-    if !k.is_busy() {
-        return Out {
-            state: st,
-            answer: Answer::TaskIdle,
-        };
-    }
-    if !is_sound(st) {
-        return Out {
-            state: st,
-            answer: Answer::Damaged,
-        };
-    }
-    abandon_work(st, at, k)
+    or_refused(st, given_up(t, st, i))
 }

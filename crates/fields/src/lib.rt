@@ -1,13 +1,16 @@
 // Records by value: the only crate that knows where a field stands. Reading a slot, the tests of a record, and the three writes.
 #![tactic(auto)]
 
-ghost use Rattle.std.specs.Prelude.{◌≡◌, ◌+◌, ◌-◌, ◌*◌, ◌/◌, ◌≤◌, ◌<◌, length, ◌&&◌, ◌||◌};
+ghost use Rattle.std.specs.Prelude.{◌≡◌, ◌+◌, ◌-◌, ◌*◌, ◌/◌, ◌≤◌, ◌<◌, length, ◌&&◌, ◌||◌, true, false, IfOk, IfErr};
 ghost use Rattle.machine.specs.Contract.{Sized};
 ghost use Rattle.machine.specs.Record.{fare_marks, inner_marks, is_link, is_inner, entry_form, in_tree, sentinel, is_leaf, well_formed, linked, level, is_fare, leads, links_of, still, other};
 ghost use Rattle.machine.specs.Table.{view, put, fill, lead, off, length_fits};
 ghost use Rattle.machine.specs.Walk.{sought, outranks};
-ghost use Rattle.fields.specs.Fitting.{fitting};
+ghost use Rattle.terms.specs.declared.Refusal.TheVariants.{Length};
 
+mod slots;
+
+pub use slots::{Slots, SlotsMut};
 use terms::{Links, Rec, Refusal};
 
 // Whether a table may be so many numbers long.
@@ -27,9 +30,9 @@ pub fn slots_of(l: usize) -> u32
 }
 
 // The slots of a table so many numbers long, or 18.
-#[tactic(auto, unfolding(crate::specs::Fitting::fitting, machine::specs::Table::length_fits, machine::specs::Choice::if_b))]
 pub fn fitting_slots(l: usize) -> Result<u32, Refusal>
-    ensures { result ≡ fitting l }
+    ensures fits { IfOk result (λ n. (length_fits l ≡ true) × (n ≡ l / 6) × (l ≡ n * 6) × (8 ≤ n) × (n ≤ 4096)) }
+    ensures refused { IfErr result (λ e. (length_fits l ≡ false) × (e ≡ Length)) }
 {
     if !length_fits(l) {
         return Err(Refusal::Length);

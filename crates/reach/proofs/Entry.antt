@@ -5,23 +5,25 @@ use mathlib.Core.List.{List}
 use Prim.Native.Nat.{ℕ, ◌-◌, ◌<◌}
 use native.Mathlib.Omega.{arith}
 use lib.ListN.{length, get_or, set, replicate, length-set, length-replicate, get_or-replicate}
+use Rattle.std.specs.Prelude.{Some, None}
+use Rattle.std.specs.declared.option.Option.{Option}
 use Rattle.terms.specs.declared.Rec.{Rec}
 use Rattle.machine.specs.Choice.{if_b}
 use Rattle.machine.specs.Record.{well_formed, in_tree}
 use Rattle.machine.specs.Table.{view}
-use Rattle.machine.specs.Reach.{reach}
+use Rattle.machine.specs.Reach.{hurt, reach}
 use Rattle.machine.proofs.Tests.{both_first, formed-in}
 use Rattle.machine.proofs.Marks.{unmarked, unmarked-set, unmarked-all}
 use Rattle.reach.specs.declared.Below.{Below}
-use Rattle.reach.specs.Down.{lost_below, Down, All}
+use Rattle.reach.specs.Down.{Down, All}
 
 module _
     (n : ℕ) (t marks : List ℕ) (em : marks ≡ replicate n 0) (e : Rec) (ee : e ≡ view n t 0)
     (f : Bool) (ef : f ≡ well_formed n 0 e) (i : Bool) (ei : i ≡ in_tree e)
   where
-    pub entry-hurt : (f && i) ≡ false → (x : Below) → x ≡ lost_below n → All (view n t) n x marks
-    unfolding lost_below reach if_b
-    entry-hurt h x ex = rw ex record { fares = omega arith; same = simp (← ee, ← ef, ← ei, h) }
+    pub entry-hurt : (f && i) ≡ false → reach n (view n t) ≡ hurt
+    unfolding reach if_b
+    entry-hurt h = simp (← ee, ← ef, ← ei, h)
 
     module _ (h : (f && i) ≡ true) where
       pub entry_in : 0 < n
@@ -39,10 +41,7 @@ module _
       pub entry_length : length (set marks 0 1) ≡ n
       entry_length = length-set marks 0 1 ∙ rw em (length-replicate {A = ℕ} n 0)
 
-      pub entry-fine : (x : Below) (later : List ℕ) → Down (view n t) n e e.left (set marks 0 1) (n - 1) x later → All (view n t) n x later
+      pub entry-way : (x : Option Below) (later : List ℕ) → Down (view n t) n e e.left (set marks 0 1) (n - 1) x later → All (view n t) n x later
       unfolding reach if_b
-      entry-fine x later d =
-          record {
-            fares = omega arith;
-            same = simp (← ee, ← ef, ← ei, h) (rw em at (d.same n (omega arith)));
-          }
+      entry-way None later d = simp (← ee, ← ef, ← ei, h) (rw em at (d.same n (omega arith)))
+      entry-way (Some x) later d = (omega arith, simp (← ee, ← ef, ← ei, h) (rw em at (d.same n (omega arith))))

@@ -63,9 +63,12 @@ gas-less : (k : ℕ) (v : View) (s : ℕ) → 1 ≤ k → is_leaf (v s) ≡ fals
 gas-less zero v s h e = absurd (not-suc-le-zero h)
 gas-less (suc k) v s h e = let z : suc k - 1 ≡ k = omega arith in rw z (gas-inner k v s e)
 
+pub some-slot : (v : View) (s left : ℕ) → size (tree_from left v s) ≤ left → 1 ≤ left
+some-slot v s left h = omega (arith, size-some (tree_from left v s))
+
 module _ (v : View) (s left : ℕ) (r : Rec) (er : r ≡ v s) (fits : size (tree_from left v s) ≤ left) (b : Bool) (eb : b ≡ is_leaf r) where
-  pub slot_left : 1 ≤ left
-  slot_left = omega (arith, size-some (tree_from left v s), fits)
+  slot_left : 1 ≤ left
+  slot_left = some-slot v s left fits
 
   leaf_is : b ≡ true → tree_from left v s ≡ leaf s r
   leaf_is t = rw er (gas-leaf left v s (rw (← er) (sym eb ∙ t)))

@@ -4,18 +4,17 @@ use mathlib.Core.Bool.{Bool, true, false, ◌&&◌}
 use mathlib.Core.List.{List}
 use Prim.Native.Nat.{ℕ, zero, suc, ◌-◌, ◌≤◌, ◌<◌}
 use native.Mathlib.Omega.{arith}
-use native.Mathlib.Nat.{le_refl}
 use lib.Dec.{eqb}
 use lib.ListN.{length, get_or, set}
 use Rattle.terms.specs.declared.Rec.{Rec}
 use Rattle.machine.specs.Record.{is_leaf, linked, in_tree, level, is_fare}
 use Rattle.machine.specs.Table.{view}
-use Rattle.machine.specs.Reach.{join_left, reachable, reach_from, larger}
+use Rattle.machine.specs.Reach.{hurt, join_left, reachable, reach_from, larger}
 use Rattle.machine.proofs.Reach.{reach-hurt, reach-leaf, reach-inner, reach-unmarked, reach-in}
 use Rattle.machine.proofs.Marks.{unmarked, unmarked-set}
 use Rattle.reach.specs.declared.Below.{Below}
-use Rattle.reach.specs.Down.{lost_below, leaf_below, inner_below, Tells, Down}
-use Rattle.reach.proofs.Joins.{one-most, larger-most, deeper-most, leaf_told, tells_left_lost, tells_right_lost, tells_inner}
+use Rattle.reach.specs.Down.{leaf_below, inner_below, Tells, Lost, Way}
+use Rattle.reach.proofs.Joins.{one-most, larger-most, deeper-most, leaf_told, right-hurt, tells_inner}
 
 module _
     (n : ℕ) (t : List ℕ) (p : Rec) (s : ℕ) (marks : List ℕ) (left : ℕ) (len : length marks ≡ n) (el : left ≡ unmarked marks)
@@ -25,18 +24,8 @@ module _
     unfolding reachable
     reach-is = rw (← er) (sym eok)
 
-    pub no_way : ok ≡ false → (x : Below) → x ≡ lost_below left → Down (view n t) n p s marks left x marks
-    unfolding lost_below
-    no_way f x e =
-        rw e
-        record {
-          rest = el;
-          fewer = le_refl left;
-          level = omega arith;
-          fares = omega arith;
-          depth = omega arith;
-          same = λ g h. rw (reach-hurt n (view n t) marks s (reach-is ∙ f) g) refl;
-        }
+    pub no_way : ok ≡ false → Lost (view n t) n s marks left
+    no_way f = record { same = λ g h. reach-hurt n (view n t) marks s (reach-is ∙ f) g }
 
     module _ (ft : ok ≡ true) where
       reaches : reachable n (view n t) marks s ≡ true
@@ -59,7 +48,7 @@ module _
       gas P f zero h = absurd (omega (arith, one_less))
       gas P f (suc g) h = f g (omega arith)
 
-      pub at_leaf_lem : (b : Bool) → b ≡ is_leaf r → b ≡ true → (x : Below) → x ≡ leaf_below p r (left - 1) → Down (view n t) n p s marks left x (set marks s 1)
+      pub at_leaf_lem : (b : Bool) → b ≡ is_leaf r → b ≡ true → (x : Below) → x ≡ leaf_below p r (left - 1) → Way (view n t) n p s marks left x (set marks s 1)
       unfolding leaf_below
       at_leaf_lem b eb tb x e =
           rw e
@@ -76,42 +65,33 @@ module _
                 (leaf_told p r s left (set marks s 1) (omega (arith, one_less))));
           }
 
-      module _ (b : Bool) (eb : b ≡ is_leaf r) (fb : b ≡ false) (a : Below) (ma : List ℕ) (da : Down (view n t) n r r.left (set marks s 1) (left - 1) a ma) where
+      module _ (b : Bool) (eb : b ≡ is_leaf r) (fb : b ≡ false) where
         inner : (g : ℕ) → reach_from (suc g) n (view n t) marks s ≡ join_left s r (reach_from g n (view n t) (set marks s 1) r.left) (λ m. reach_from g n (view n t) m r.right)
         inner g = rw er (reach-inner n (view n t) marks s reaches (rw (← er) (sym eb ∙ fb)) g)
 
-        pub left-lost : a.fine ≡ false → Down (view n t) n p s marks left a ma
-        left-lost f =
+        pub left-lost : Lost (view n t) n r.left (set marks s 1) (left - 1) → Lost (view n t) n s marks left
+        left-lost d =
             record {
-              rest = da.rest;
-              fewer = omega arith;
-              level = omega arith;
-              fares = omega arith;
-              depth = omega arith;
-              same =
-                  gas (λ g. Tells p left a ma (reach_from g n (view n t) marks s))
-                  (λ g h. rw (inner g) (tells_left_lost p r s left (left - 1) a ma (reach_from g n (view n t) (set marks s 1) r.left) (λ m. reach_from g n (view n t) m r.right) (da.same g h) f));
+              same = gas (λ g. reach_from g n (view n t) marks s ≡ hurt) (λ g h. inner g ∙ rw (d.same g h) refl);
             }
 
-        module _ (fa : a.fine ≡ true) (c : Below) (mc : List ℕ) (dc : Down (view n t) n r r.right ma a.left c mc) where
-          pub right_lost : c.fine ≡ false → Down (view n t) n p s marks left c mc
-          right_lost f =
+        module _ (a : Below) (ma : List ℕ) (da : Way (view n t) n r r.left (set marks s 1) (left - 1) a ma) where
+          pub right_lost : Lost (view n t) n r.right ma a.left → Lost (view n t) n s marks left
+          right_lost d =
               record {
-                rest = dc.rest;
-                fewer = omega arith;
-                level = omega arith;
-                fares = omega arith;
-                depth = omega arith;
                 same =
-                    gas (λ g. Tells p left c mc (reach_from g n (view n t) marks s))
+                    gas (λ g. reach_from g n (view n t) marks s ≡ hurt)
                     (λ g h.
-                    rw (inner g)
-                    (tells_right_lost p r s left (left - 1) a ma c mc (reach_from g n (view n t) (set marks s 1) r.left) (λ m. reach_from g n (view n t) m r.right) (da.same g h) fa (dc.same g (omega arith)) f));
+                    inner g
+                    ∙ right-hurt p r s left (left - 1) a ma (reach_from g n (view n t) (set marks s 1) r.left) (λ m. reach_from g n (view n t) m r.right) (da.same g h)
+                    (d.same g (omega arith)));
               }
 
-          pub both-fine : c.fine ≡ true → (x : Below) → x ≡ inner_below p r a c → Down (view n t) n p s marks left x mc
+          pub both-told :
+              (c : Below) (mc : List ℕ) → Way (view n t) n r r.right ma a.left c mc → (x : Below) → x ≡ inner_below p r a c
+              → Way (view n t) n p s marks left x mc
           unfolding inner_below
-          both-fine f x e =
+          both-told c mc dc x e =
               let l : left ≡ suc (left - 1) = omega (arith, one_less) in
               let m = larger-most a.depth c.depth (left - 1 - c.left) (omega arith) (omega arith) in
               rw e
@@ -125,5 +105,5 @@ module _
                     gas (λ g. Tells p left (inner_below p r a c) mc (reach_from g n (view n t) marks s))
                     (λ g h.
                     rw (inner g)
-                    (tells_inner p r s left (left - 1) a ma c mc (reach_from g n (view n t) (set marks s 1) r.left) (λ m. reach_from g n (view n t) m r.right) (da.same g h) fa l (dc.same g (omega arith)) f));
+                    (tells_inner p r s left (left - 1) a ma c mc (reach_from g n (view n t) (set marks s 1) r.left) (λ m. reach_from g n (view n t) m r.right) (da.same g h) l (dc.same g (omega arith))));
               }

@@ -2,24 +2,24 @@
 #![tactic(auto)]
 
 ghost use Rattle.std.specs.Prelude.{◌≡◌, ◌+◌, ◌-◌, ◌*◌, ◌≤◌, ◌<◌, length};
-ghost use Rattle.machine.specs.Contract.{Sized};
-ghost use Rattle.machine.specs.Table.{view, count_free};
+ghost use Rattle.fields.specs.Writes.{seen};
+ghost use Rattle.machine.specs.Table.{count_free};
 ghost use Rattle.room.specs.Found.{Found, FreeSlots};
 
-use fields::state_at;
+use fields::Slots;
 
 // The lowest free slot from a slot on; at or past the end there is none.
 #[tactic(auto, using(machine::proofs::Scan::scan_end, machine::proofs::Scan::scan_hit, machine::proofs::Scan::scan_miss))]
-fn free_from(t: &[u32], n: u32, from: u32) -> Option<u32>
-    requires { Sized t.now n × (from ≤ 4096) }
-    ensures { Found (view n t.now) n from result }
+fn free_from(t: &Slots, from: u32) -> Option<u32>
+    requires { from ≤ 4096 }
+    ensures { Found (seen t.now) t.now.n from result }
 {
     let mut i = from;
     loop {
-        if n <= i {
+        if t.n <= i {
             break None;
         }
-        if state_at(t, n, i) == 0 {
+        if t.state_at(i) == 0 {
             break Some(i);
         }
         i += 1;
@@ -27,14 +27,13 @@ fn free_from(t: &[u32], n: u32, from: u32) -> Option<u32>
 }
 
 // The N lowest free slots, in the order in which new records take them, if there are so many.
-pub fn free_slots<const N: usize>(t: &[u32], n: u32) -> Option<[u32; N]>
-    requires { Sized t.now n }
-    ensures { FreeSlots (view n t.now) n N result }
+pub fn free_slots<const N: usize>(t: &Slots) -> Option<[u32; N]>
+    ensures { FreeSlots (seen t.now) t.now.n N result }
 {
     let mut slots = [0; N];
     let mut from = 1;
     for i in 0..N {
-        let s = free_from(t, n, from)?;
+        let s = free_from(t, from)?;
         slots[i] = s;
         from = s + 1;
     }
@@ -43,13 +42,12 @@ pub fn free_slots<const N: usize>(t: &[u32], n: u32) -> Option<[u32; N]>
 
 // How many slots are in state 0.
 #[tactic(auto, unfolding(machine::specs::Table::count_free, machine::specs::Choice::if_b))]
-pub fn count_free(t: &[u32], n: u32) -> u32
-    requires { Sized t.now n }
-    ensures { result ≡ count_free (view n t.now) n }
+pub fn count_free(t: &Slots) -> u32
+    ensures { result ≡ count_free (seen t.now) t.now.n }
 {
     let mut count = 0;
-    for s in 0..n {
-        if state_at(t, n, s) == 0 {
+    for s in 0..t.n {
+        if t.state_at(s) == 0 {
             count += 1;
         }
     }

@@ -1,11 +1,12 @@
 // The state by value: the counts over its eight tasks, its soundness, and a task's turn stored in it.
 #![tactic(auto)]
 
-ghost use Rattle.std.specs.Prelude.{◌≡◌, ◌&&◌, ◌+◌, ◌-◌, ◌*◌, ◌≤◌, ◌<◌};
+ghost use Rattle.std.specs.Prelude.{◌≡◌, ◌&&◌, ◌+◌, ◌-◌, ◌*◌, ◌≤◌, ◌<◌, IfOk, IfErr};
 ghost use Rattle.machine.specs.State.{settling, busy_tasks, sound, job_fits, ask_fits, may_price, with_task, fresh_state};
 ghost use Rattle.machine.specs.Contract.{turned_out};
 ghost use Rattle.machine.specs.Step.{counted};
-ghost use Rattle.state.specs.Refused.{place_of, or_refused};
+ghost use Rattle.state.specs.Refused.{or_refused};
+ghost use Rattle.terms.specs.declared.Refusal.TheVariants.{TaskNumber};
 
 use terms::{Answer, Job, Operation, Out, Refusal, State, Task, Turn};
 
@@ -100,9 +101,9 @@ pub fn turn_out(st: State, i: usize, a: Turn, committed: bool) -> Out
 }
 
 // A task's number as its place, or 10.
-#[tactic(auto, unfolding(crate::specs::Refused::place_of, machine::specs::Choice::if_b))]
 pub fn task_place(i: u32) -> Result<usize, Refusal>
-    ensures { result ≡ place_of i }
+    ensures placed { IfOk result (λ at. (at ≡ i) × (i < 8)) }
+    ensures refused { IfErr result (λ e. (7 < i) × (e ≡ TaskNumber)) }
 {
     if 7 < i {
         return Err(Refusal::TaskNumber);

@@ -4,14 +4,16 @@
 ghost use Rattle.std.specs.Prelude.{◌≡◌, ◌+◌, ◌-◌, ◌*◌, ◌/◌, ◌≤◌, ◌<◌, length};
 ghost use Rattle.machine.specs.Contract.{Sized, after, acted, played};
 ghost use Rattle.machine.specs.Table.{view, slots};
+ghost use Rattle.machine.specs.State.{task_at};
 ghost use Rattle.machine.specs.Step.{phase_step, step_work, step_of};
+ghost use Rattle.state.specs.Refused.{or_refused};
 
 use choosing::settle_step;
-use fields::{length_fits, slots_of};
+use fields::fitting_slots;
 use putting::put_step;
-use state::{is_sound, job_fits, turn_out};
+use state::{is_sound, job_fits, or_refused, task_place, turn_out};
 use taking::take_step;
-use terms::{Answer, Job, Out, Outcome, Phase, State, Work};
+use terms::{Job, Out, Outcome, Phase, Refusal, State, Work};
 use walk::{calm_turn, walk_from, walk_on};
 
 // The step of a task by its phase; m put-ins are committed.
@@ -29,51 +31,35 @@ pub fn phase_step(t: &mut [u32], n: u32, m: u32, j: Job, f: Phase) -> Outcome
     }
 }
 
-// A step of task i, which does w.
+// A step of task i, by what it does, in a table of n slots.
 #[tactic(auto, unfolding(machine::specs::Contract::after, machine::specs::Step::step_work, machine::specs::Choice::if_b))]
-fn step_work(t: &mut [u32], n: u32, st: State, i: usize, w: Work) -> Out
+fn step_work(t: &mut [u32], n: u32, st: State, i: usize) -> Result<Out, Refusal>
     requires { Sized t.old n × (n ≡ slots t.old) × (i < 8) }
-    ensures { after t.new result ≡ step_work t.old st i w }
+    ensures { after t.new (or_refused st result) ≡ step_work t.old st i (task_at st i).work }
 {
-    match w {
-        Work::Idle => Out {
-            state: st,
-            answer: Answer::TaskIdle,
-        },
-        Work::Busy(j, f) => {
-            if !(is_sound(st) & job_fits(j)) {
-                return Out {
-                    state: st,
-                    answer: Answer::Damaged,
-                };
-            }
-            let r = phase_step(t, n, st.m, j, f);
-            let a = r.turn;
-            turn_out(st, i, a, r.committed)
-        }
+    let Work::Busy(j, f) = st.tasks[i].work else {
+        return Err(Refusal::TaskIdle);
+    };
+    if !(is_sound(st) & job_fits(j)) {
+        return Err(Refusal::Damaged);
     }
+    let r = phase_step(t, n, st.m, j, f);
+    Ok(turn_out(st, i, r.turn, r.committed))
+}
+
+// A step of task i, or the first refusal that holds.
+#[tactic(auto, unfolding(machine::specs::Contract::after, machine::specs::Step::step_of, machine::specs::Choice::if_b))]
+fn stepped(t: &mut [u32], st: State, i: u32) -> Result<Out, Refusal>
+    ensures { after t.new (or_refused st result) ≡ step_of t.old st i }
+{
+    let n = fitting_slots(t.len())?;
+    let at = task_place(i)?;
+    step_work(t, n, st, at)
 }
 
 // One step of task i.
-#[tactic(auto, unfolding(machine::specs::Contract::after, machine::specs::Step::step_of, machine::specs::Choice::if_b))]
 pub fn step(t: &mut [u32], st: State, i: u32) -> Out
     ensures { after t.new result ≡ step_of t.old st i }
 {
-    let l = t.len();
-    if !length_fits(l) {
-        return Out {
-            state: st,
-            answer: Answer::Length,
-        };
-    }
-    if 7 < i {
-        return Out {
-            state: st,
-            answer: Answer::TaskNumber,
-        };
-    }
-    let at = i as usize;
-    let k = st.tasks[at];
-    let w = k.work;
-    step_work(t, slots_of(l), st, at, w)
+    or_refused(st, stepped(t, st, i))
 }

@@ -14,6 +14,7 @@ use Rattle.machine.specs.Choice.{if_b}
 use Rattle.machine.specs.Record.{well_formed, linked, leads, other}
 use Rattle.machine.specs.Table.{view}
 use Rattle.machine.specs.TakeOut.{take_apart, take_leaf, take_grounds}
+use Rattle.walk.specs.Inside.{Inside}
 use Rattle.machine.proofs.Choice.{if_elim}
 use Rattle.machine.proofs.Tests.{both_first, both-second, formed-in, linked-in, either_way}
 
@@ -24,7 +25,7 @@ module _ (n : ℕ) (t : List ℕ) (j : Job) (q : Path) (a b : Links) (g p l r : 
   passed : take_grounds n j q a b g p l r ≡ true
   passed = rw ex at e
 
-  pub grand_in : q.grand < n
+  grand_in : q.grand < n
   unfolding take_grounds
   grand_in = formed-in n t q.grand (rw eg at (both_first (well_formed n q.grand g) _ passed))
 
@@ -33,7 +34,7 @@ module _ (n : ℕ) (t : List ℕ) (j : Job) (q : Path) (a b : Links) (g p l r : 
   unfolding take_grounds
   rest-1 = both-second (well_formed n q.grand g) _ passed
 
-  pub parent_in : q.parent < n
+  parent_in : q.parent < n
   parent_in = formed-in n t q.parent (rw ep at (both_first (well_formed n q.parent p) _ rest-1))
 
   rest-2 : (linked n b.left l && (linked n b.right r
@@ -55,7 +56,7 @@ module _ (n : ℕ) (t : List ℕ) (j : Job) (q : Path) (a b : Links) (g p l r : 
       both_first (leads b q.here) _
       (both-second (leads a q.parent) _ (both-second (take_apart q b) _ (both-second (linked n b.right r) _ rest-3)))
 
-  pub here_in : q.here < n
+  here_in : q.here < n
   unfolding leads
   here_in =
       either_way (eqb b.left q.here) (eqb b.right q.here) (q.here < n)
@@ -66,3 +67,6 @@ module _ (n : ℕ) (t : List ℕ) (j : Job) (q : Path) (a b : Links) (g p l r : 
   pub sibling_in : (s : ℕ) → s ≡ other b q.here → s < n
   unfolding other
   sibling_in s es = rw es (if_elim (λ k. k < n) (eqb b.left q.here) (λ y. right_in) (λ y. left_in))
+
+  pub path_in : Inside n q
+  path_in = (grand_in, parent_in, here_in)

@@ -1,19 +1,25 @@
 // Take-out: its four readings and its commit.
 #![tactic(auto)]
 
-ghost use Rattle.std.specs.Prelude.{◌≡◌, [], ◌∷◌, ◌+◌, ◌-◌, ◌*◌, ◌≤◌, ◌<◌, eqb};
-ghost use Rattle.machine.specs.Choice.{if_b};
-ghost use Rattle.machine.specs.Contract.{Sized, acted, played};
-ghost use Rattle.machine.specs.Table.{view, puts};
-ghost use Rattle.machine.specs.TakeOut.{take_apart, take_leaf, take_grounds, take_test, take_writes, take_room, take_commit, read_take_grand, read_take_parent, read_take_left, read_take_right, take_step};
+ghost use Rattle.std.specs.Prelude.{◌≡◌, [], ◌∷◌, ◌+◌, ◌-◌, ◌*◌, ◌≤◌, ◌<◌};
+ghost use Rattle.fields.specs.Writes.{read, Writes, Does};
+ghost use Rattle.machine.specs.TakeOut.{take_apart, take_leaf, take_grounds, take_test, take_writes, take_room, take_commit, take_step};
+ghost use Rattle.walk.specs.Inside.{Inside};
+ghost use Rattle.walk.specs.Stopped.{or_calm};
 
-use fields::{
-    in_tree, is_leaf, is_linked, is_still, lead_to, links_of, load, other_link, put_fill, put_lead,
-    put_off, well_formed,
-};
-use room::one_slot;
-use terms::{Answer, Goal, Job, Links, Operation, Outcome, Path, Phase, Rec, TakeStage, Turn};
-use walk::{busy_in, calm_turn, read_record};
+use fields::{SlotsMut, is_leaf, is_linked, is_still, lead_to, other_link, well_formed};
+use room::free_slots;
+use terms::{Answer, Job, Links, Outcome, Path, Phase, Rec, TakeStage, Turn};
+use walk::{busy_in, calm_turn, may_change, or_calm, read_child, read_leading};
+
+// What a take-out reads, of each the links noted or the record: grandparent, parent, its left child, its right child.
+#[derive(Clone, Copy)]
+struct Family<T> {
+    grand: T,
+    parent: T,
+    left: T,
+    right: T,
+}
 
 // No two of the records read are one and the same.
 #[tactic(auto, unfolding(machine::specs::TakeOut::take_apart, machine::specs::Choice::if_b))]
@@ -32,165 +38,97 @@ fn take_leaf(j: Job, h: Rec) -> bool
     is_leaf(h) & (h.number == j.number)
 }
 
-// The child that the task stands on, of the two.
-#[tactic(auto, unfolding(machine::specs::Choice::if_b))]
-fn child_here(q: Path, b: Links, l: Rec, r: Rec) -> Rec
-    ensures { result ≡ if_b (eqb b.left q.here) l r }
-{
-    if b.left == q.here {
-        return l;
-    }
-    r
-}
-
 // The grounds of 17 that the commit looks at before its test.
 #[tactic(auto, unfolding(machine::specs::TakeOut::take_grounds, machine::specs::Choice::if_b))]
-fn take_grounds(n: u32, j: Job, q: Path, a: Links, b: Links, g: Rec, p: Rec, l: Rec, r: Rec) -> bool
-    ensures { result ≡ take_grounds n j q a b g p l r }
+fn take_grounds(n: u32, j: Job, q: Path, noted: Family<Links>, now: Family<Rec>) -> bool
+    ensures { result ≡ take_grounds n j q noted.grand noted.parent now.grand now.parent now.left now.right }
 {
-    let h = child_here(q, b, l, r);
-    let stands = lead_to(a, q.parent) & (lead_to(b, q.here) & take_leaf(j, h));
-    let children = is_linked(n, b.left, l)
-        & (is_linked(n, b.right, r) & (take_apart(q, b) & stands));
-    well_formed(n, q.grand, g) & (well_formed(n, q.parent, p) & children)
+    let b = noted.parent;
+    let h = if b.left == q.here {
+        now.left
+    } else {
+        now.right
+    };
+    let stands = lead_to(noted.grand, q.parent) & (lead_to(b, q.here) & take_leaf(j, h));
+    let children = is_linked(n, b.left, now.left)
+        & (is_linked(n, b.right, now.right) & (take_apart(q, b) & stands));
+    well_formed(n, q.grand, now.grand) & (well_formed(n, q.parent, now.parent) & children)
 }
 
 #[tactic(auto, unfolding(machine::specs::TakeOut::take_test, machine::specs::Choice::if_b))]
-fn take_test(a: Links, b: Links, c: Links, d: Links, g: Rec, p: Rec, l: Rec, r: Rec) -> bool
-    ensures { result ≡ take_test a b c d g p l r }
+fn take_test(noted: Family<Links>, now: Family<Rec>) -> bool
+    ensures { result ≡ take_test noted.grand noted.parent noted.left noted.right now.grand now.parent now.left now.right }
 {
-    is_still(g, a) & (is_still(p, b) & (is_still(l, c) & is_still(r, d)))
+    let children = is_still(now.left, noted.left) & is_still(now.right, noted.right);
+    is_still(now.grand, noted.grand) & (is_still(now.parent, noted.parent) & children)
 }
 
 // The five writes of a take-out: s is the sibling's record, x the slot of its copy.
 #[tactic(auto, unfolding(machine::specs::Table::puts))]
-fn take_writes(t: &mut [u32], n: u32, q: Path, left: bool, s: Rec, sibling: u32, x: u32)
-    requires { Sized t.old n × (x < n) × (sibling < n) × (q.here < n) × (q.parent < n) × (q.grand < n) }
-    ensures { t.new ≡ puts t.old (take_writes q left s sibling x) }
+fn take_writes(t: &mut SlotsMut, q: Path, left: bool, s: Rec, sibling: u32, x: u32)
+    requires { (x < t.old.n) × (sibling < t.old.n) × Inside t.old.n q }
+    ensures { Writes t.old t.new (take_writes q left s sibling x) }
 {
-    put_fill(t, n, x, s);
-    put_off(t, n, q.parent);
-    put_off(t, n, q.here);
-    put_off(t, n, sibling);
-    put_lead(t, n, q.grand, left, x);
+    t.fill(x, s);
+    t.take_off(q.parent);
+    t.take_off(q.here);
+    t.take_off(sibling);
+    t.lead(q.grand, left, x);
 }
 
 // Room, and the writes.
-#[tactic(auto, unfolding(machine::specs::Contract::acted, machine::specs::Contract::played, machine::specs::TakeOut::take_room, machine::specs::Choice::if_b, machine::specs::Table::puts))]
-fn take_room(t: &mut [u32], n: u32, q: Path, left: bool, s: Rec, sibling: u32) -> Outcome
-    requires { Sized t.old n × (sibling < n) × (q.here < n) × (q.parent < n) × (q.grand < n) }
-    ensures { acted t.new result ≡ played t.old (take_room (view n t.old) n q left s sibling) }
+#[tactic(auto, unfolding(machine::specs::Contract::acted, machine::specs::Contract::played, machine::specs::TakeOut::take_room, machine::specs::Choice::if_b, machine::specs::Table::puts, machine::specs::Table::slot1))]
+fn take_room(t: &mut SlotsMut, q: Path, left: bool, s: Rec, sibling: u32) -> Result<Outcome, Turn>
+    requires { (sibling < t.old.n) × Inside t.old.n q }
+    ensures { Does t.old t.new (or_calm result) (take_room (read t.old) t.old.n q left s sibling) }
 {
-    let x = one_slot(t, n);
-    if n <= x {
-        return calm_turn(Turn::Done(Answer::NoRoom));
-    }
-    take_writes(t, n, q, left, s, sibling, x);
-    Outcome {
-        turn: Turn::Done(Answer::TakenOut),
-        committed: false,
-    }
+    let [x] = free_slots::<1>(&t.read()).ok_or(Turn::Done(Answer::NoRoom))?;
+    take_writes(t, q, left, s, sibling, x);
+    Ok(calm_turn(Turn::Done(Answer::TakenOut)))
 }
 
 // The commit of a take-out.
-#[tactic(auto, unfolding(machine::specs::Contract::acted, machine::specs::Contract::played, machine::specs::TakeOut::take_commit, machine::specs::Choice::if_b, machine::specs::Table::puts, machine::specs::Commit::commit_if))]
-fn take_commit(
-    t: &mut [u32],
-    n: u32,
-    j: Job,
-    q: Path,
-    a: Links,
-    b: Links,
-    c: Links,
-    d: Links,
-) -> Outcome
-    requires { Sized t.old n }
-    ensures { acted t.new result ≡ played t.old (take_commit (view n t.old) n j q a b c d) }
+#[tactic(auto, unfolding(machine::specs::Contract::acted, machine::specs::Contract::played, machine::specs::TakeOut::take_commit, machine::specs::Choice::if_b, machine::specs::Table::puts))]
+fn take_commit(t: &mut SlotsMut, j: Job, q: Path, noted: Family<Links>) -> Result<Outcome, Turn>
+    ensures { Does t.old t.new (or_calm result) (take_commit (read t.old) t.old.n j q noted.grand noted.parent noted.left noted.right) }
 {
-    let g = load(t, n, q.grand);
-    let p = load(t, n, q.parent);
-    let l = load(t, n, b.left);
-    let r = load(t, n, b.right);
-    if !take_grounds(n, j, q, a, b, g, p, l, r) {
-        return calm_turn(Turn::Hurt);
-    }
-    if !take_test(a, b, c, d, g, p, l, r) {
-        return calm_turn(Turn::Next(busy_in(j, Phase::Start(Goal::Serve(Operation::TakeOut)))));
-    }
-    let sibling = other_link(b, q.here);
-    take_room(t, n, q, a.left == q.parent, load(t, n, sibling), sibling)
+    let now = Family {
+        grand: t.at(q.grand),
+        parent: t.at(q.parent),
+        left: t.at(noted.parent.left),
+        right: t.at(noted.parent.right),
+    };
+    let s = TakeStage::TakeCommit(noted.grand, noted.parent, noted.left, noted.right);
+    let k = busy_in(j, Phase::TakingOut(q, s));
+    may_change(
+        k,
+        take_grounds(t.n, j, q, noted, now),
+        take_test(noted, now),
+    )?;
+    let sibling = other_link(noted.parent, q.here);
+    let copied = t.at(sibling);
+    take_room(t, q, noted.grand.left == q.parent, copied, sibling)
 }
 
-// The readings.
-#[tactic(auto, unfolding(machine::specs::TakeOut::read_take_grand, machine::specs::Choice::if_b))]
-fn read_take_grand(n: u32, j: Job, q: Path, g: Rec) -> Turn
-    ensures { result ≡ read_take_grand n j q g }
+// A step of a take-out that has walked: the four readings, then the commit.
+#[tactic(auto, unfolding(machine::specs::Contract::acted, machine::specs::Contract::played, machine::specs::TakeOut::take_step, machine::specs::TakeOut::read_take_grand, machine::specs::TakeOut::read_take_parent, machine::specs::TakeOut::read_take_left, machine::specs::TakeOut::read_take_right, machine::specs::Choice::if_b, machine::specs::Table::puts))]
+pub fn take_step(t: &mut SlotsMut, j: Job, q: Path, s: TakeStage) -> Outcome
+    ensures { Does t.old t.new result (take_step (read t.old) t.old.n j q s) }
 {
-    let good = in_tree(g) & lead_to(links_of(g), q.parent);
-    read_record(
-        busy_in(j, Phase::TakingOut(q, TakeStage::TakeGrand)),
-        well_formed(n, q.grand, g),
-        good,
-        g,
-    )
-}
-
-#[tactic(auto, unfolding(machine::specs::TakeOut::read_take_parent, machine::specs::Choice::if_b))]
-fn read_take_parent(n: u32, j: Job, q: Path, a: Links, p: Rec) -> Turn
-    ensures { result ≡ read_take_parent n j q a p }
-{
-    let good = in_tree(p) & lead_to(links_of(p), q.here);
-    read_record(
-        busy_in(j, Phase::TakingOut(q, TakeStage::TakeParent(a))),
-        well_formed(n, q.parent, p),
-        good,
-        p,
-    )
-}
-
-#[tactic(auto, unfolding(machine::specs::TakeOut::read_take_left, machine::specs::Choice::if_b))]
-fn read_take_left(n: u32, j: Job, q: Path, a: Links, b: Links, l: Rec) -> Turn
-    ensures { result ≡ read_take_left n j q a b l }
-{
-    read_record(
-        busy_in(j, Phase::TakingOut(q, TakeStage::TakeLeft(a, b))),
-        is_linked(n, b.left, l),
-        in_tree(l),
-        l,
-    )
-}
-
-#[tactic(auto, unfolding(machine::specs::TakeOut::read_take_right, machine::specs::Choice::if_b))]
-fn read_take_right(n: u32, j: Job, q: Path, a: Links, b: Links, c: Links, r: Rec) -> Turn
-    ensures { result ≡ read_take_right n j q a b c r }
-{
-    read_record(
-        busy_in(j, Phase::TakingOut(q, TakeStage::TakeRight(a, b, c))),
-        is_linked(n, b.right, r),
-        in_tree(r),
-        r,
-    )
-}
-
-// A step of a take-out that has walked.
-#[tactic(auto, unfolding(machine::specs::Contract::acted, machine::specs::Contract::played, machine::specs::TakeOut::take_step, machine::specs::Choice::if_b, machine::specs::Table::puts))]
-pub fn take_step(t: &mut [u32], n: u32, j: Job, q: Path, s: TakeStage) -> Outcome
-    requires { Sized t.old n }
-    ensures { acted t.new result ≡ played t.old (take_step (view n t.old) n j q s) }
-{
+    let k = busy_in(j, Phase::TakingOut(q, s));
     match s {
-        TakeStage::TakeGrand => calm_turn(read_take_grand(n, j, q, load(t, n, q.grand))),
-        TakeStage::TakeParent(a) => calm_turn(read_take_parent(n, j, q, a, load(t, n, q.parent))),
-        TakeStage::TakeLeft(a, b) => calm_turn(read_take_left(n, j, q, a, b, load(t, n, b.left))),
-        TakeStage::TakeRight(a, b, c) => calm_turn(read_take_right(
-            n,
-            j,
-            q,
-            a,
-            b,
-            c,
-            load(t, n, b.right),
-        )),
-        TakeStage::TakeCommit(a, b, c, d) => take_commit(t, n, j, q, a, b, c, d),
+        TakeStage::TakeGrand => read_leading(&t.read(), k, q.grand, q.parent),
+        TakeStage::TakeParent(_) => read_leading(&t.read(), k, q.parent, q.here),
+        TakeStage::TakeLeft(_, b) => read_child(&t.read(), k, b.left),
+        TakeStage::TakeRight(_, b, _) => read_child(&t.read(), k, b.right),
+        TakeStage::TakeCommit(grand, parent, left, right) => {
+            let noted = Family {
+                grand,
+                parent,
+                left,
+                right,
+            };
+            or_calm(take_commit(t, j, q, noted))
+        }
     }
 }

@@ -1,1 +1,4 @@
 pub mod Arrived
+pub mod Inside
+pub mod Reads
+pub mod Stopped

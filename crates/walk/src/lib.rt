@@ -1,17 +1,21 @@
 // The walk, and a reading: decisions on records by value, and the functions that load the records that they name.
 #![tactic(auto)]
 
-ghost use Rattle.std.specs.Prelude.{◌≡◌, ◌+◌, ◌-◌, ◌*◌, ◌≤◌, ◌<◌};
+ghost use Rattle.std.specs.Prelude.{◌≡◌, ◌+◌, ◌-◌, ◌*◌, ◌≤◌, ◌<◌, true, IfOk};
 ghost use Rattle.terms.specs.Task.{busy};
-ghost use Rattle.machine.specs.Contract.{Sized};
-ghost use Rattle.machine.specs.Table.{view};
+ghost use Rattle.fields.specs.Writes.{seen};
 ghost use Rattle.machine.specs.Walk.{at_leaf, serve_arrival, settle_arrival, arrival, walk_to, walk_from, walk_on};
-ghost use Rattle.machine.specs.Commit.{reading};
+ghost use Rattle.machine.specs.Commit.{reading, Did, commit_if};
 ghost use Rattle.terms.specs.declared.Goal.TheVariants.{Serve, Settle};
 ghost use Rattle.walk.specs.Arrived.{left_to, turn_at};
+ghost use Rattle.walk.specs.Reads.{leading_read, child_read};
+ghost use Rattle.walk.specs.Stopped.{or_stopped, or_calm};
 ghost use Rattle.machine.proofs.Writes.{calmly};
 
-use fields::{is_leaf, is_level, is_linked, links_of, load, outranks, sought_link, well_formed};
+use fields::{
+    Slots, in_tree, is_leaf, is_level, is_linked, lead_to, links_of, outranks, sought_link,
+    well_formed,
+};
 use terms::{
     Answer, Goal, Job, Operation, Outcome, Path, Phase, PutStage, Rec, SettleStage, TakeStage,
     Task, Turn, Work,
@@ -59,26 +63,12 @@ pub struct Gone {
 fn at_leaf(o: Operation, j: Job, q: Path, r: Rec) -> Arrival
     ensures { turn_at (Serve o) j q result ≡ at_leaf o j q r }
 {
-    let held = r.number == j.number;
-    match o {
-        Operation::LookUp => {
-            if held {
-                return Arrival::Ends(Answer::Found(r.price));
-            }
-            Arrival::Ends(Answer::NotHeld)
-        }
-        Operation::PutIn => {
-            if held {
-                return Arrival::Ends(Answer::HeldAlready);
-            }
-            Arrival::Puts
-        }
-        Operation::TakeOut => {
-            if held {
-                return Arrival::Takes;
-            }
-            Arrival::Ends(Answer::NotHeld)
-        }
+    match (o, r.number == j.number) {
+        (Operation::LookUp, true) => Arrival::Ends(Answer::Found(r.price)),
+        (Operation::PutIn, true) => Arrival::Ends(Answer::HeldAlready),
+        (Operation::PutIn, false) => Arrival::Puts,
+        (Operation::TakeOut, true) => Arrival::Takes,
+        (Operation::LookUp | Operation::TakeOut, false) => Arrival::Ends(Answer::NotHeld),
     }
 }
 
@@ -88,9 +78,10 @@ fn serve_arrival(o: Operation, j: Job, q: Path, h: Rec) -> Arrival
     ensures { turn_at (Serve o) j q result ≡ serve_arrival o j q h }
 {
     if is_leaf(h) {
-        return at_leaf(o, j, q, h);
+        at_leaf(o, j, q, h)
+    } else {
+        Arrival::On
     }
-    Arrival::On
 }
 
 // A record h is arrived at below p, on a walk that settles.
@@ -99,15 +90,14 @@ fn settle_arrival(j: Job, q: Path, p: Rec, h: Rec) -> Arrival
     ensures { turn_at Settle j q result ≡ settle_arrival j q p h }
 {
     if outranks(h, p) {
-        return Arrival::Lost;
+        Arrival::Lost
+    } else if is_level(p, h) {
+        Arrival::Settles
+    } else if is_leaf(h) {
+        Arrival::Ends(Answer::PutSettled)
+    } else {
+        Arrival::On
     }
-    if is_level(p, h) {
-        return Arrival::Settles;
-    }
-    if is_leaf(h) {
-        return Arrival::Ends(Answer::PutSettled);
-    }
-    Arrival::On
 }
 
 // The arrival rule.
@@ -123,25 +113,25 @@ fn arrive(g: Goal, j: Job, q: Path, p: Rec, h: Rec) -> Arrival
 
 // The record arrived at is read; p is the one that the walk left.
 #[tactic(auto, unfolding(crate::specs::Arrived::turn_at, machine::specs::Walk::walk_to, machine::specs::Choice::if_b))]
-fn walk_to(t: &[u32], n: u32, g: Goal, j: Job, q: Path, p: Rec) -> Arrival
-    requires { Sized t.now n × (p ≡ view n t.now q.parent) }
-    ensures { turn_at g j q result ≡ walk_to (view n t.now) n g j q }
+fn walk_to(t: &Slots, g: Goal, j: Job, q: Path, p: Rec) -> Arrival
+    requires { p ≡ seen t.now q.parent }
+    ensures { turn_at g j q result ≡ walk_to (seen t.now) t.now.n g j q }
 {
-    let h = load(t, n, q.here);
-    if !is_linked(n, q.here, h) {
-        return Arrival::Lost;
+    let h = t.at(q.here);
+    if is_linked(t.n, q.here, h) {
+        arrive(g, j, q, p, h)
+    } else {
+        Arrival::Lost
     }
-    arrive(g, j, q, p, h)
 }
 
 // One step of a walk: it leaves slot s, whose parent is the slot grand.
 #[tactic(auto, unfolding(crate::specs::Arrived::turn_at, machine::specs::Walk::walk_from, crate::specs::Arrived::left_to, machine::specs::Choice::if_b))]
-pub fn walk_out(t: &[u32], n: u32, g: Goal, j: Job, grand: u32, s: u32) -> Gone
-    requires { Sized t.now n }
-    ensures { (turn_at g j (record { grand = grand; parent = s; here = result.to }) result.at ≡ walk_from (view n t.now) n g j grand s) × (result.to ≡ left_to (view n t.now) n j.number s) }
+pub fn walk_out(t: &Slots, g: Goal, j: Job, grand: u32, s: u32) -> Gone
+    ensures { (turn_at g j (record { grand = grand; parent = s; here = result.to }) result.at ≡ walk_from (seen t.now) t.now.n g j grand s) × (result.to ≡ left_to (seen t.now) t.now.n j.number s) }
 {
-    let p = load(t, n, s);
-    if !well_formed(n, s, p) {
+    let p = t.at(s);
+    if !well_formed(t.n, s, p) {
         return Gone {
             to: 0,
             at: Arrival::Lost,
@@ -149,13 +139,13 @@ pub fn walk_out(t: &[u32], n: u32, g: Goal, j: Job, grand: u32, s: u32) -> Gone
     }
     let to = sought_link(j.number, p);
     let q = Path {
-        grand: grand,
+        grand,
         parent: s,
         here: to,
     };
     Gone {
-        to: to,
-        at: walk_to(t, n, g, j, q, p),
+        to,
+        at: walk_to(t, g, j, q, p),
     }
 }
 
@@ -176,30 +166,28 @@ fn turn_at(g: Goal, j: Job, q: Path, a: Arrival) -> Turn
 
 // The same step as a turn of its task.
 #[tactic(auto, unfolding(machine::specs::Walk::walk_from, machine::specs::Choice::if_b))]
-pub fn walk_from(t: &[u32], n: u32, g: Goal, j: Job, grand: u32, s: u32) -> Turn
-    requires { Sized t.now n }
-    ensures { result ≡ walk_from (view n t.now) n g j grand s }
+pub fn walk_from(t: &Slots, g: Goal, j: Job, grand: u32, s: u32) -> Turn
+    ensures { result ≡ walk_from (seen t.now) t.now.n g j grand s }
 {
-    let r = walk_out(t, n, g, j, grand, s);
+    let r = walk_out(t, g, j, grand, s);
     let q = Path {
-        grand: grand,
+        grand,
         parent: s,
         here: r.to,
     };
-    let a = r.at;
-    turn_at(g, j, q, a)
+    turn_at(g, j, q, r.at)
 }
 
 // A walk that goes on from where the task stands.
 #[tactic(auto, unfolding(machine::specs::Walk::walk_on, machine::specs::Choice::if_b))]
-pub fn walk_on(t: &[u32], n: u32, g: Goal, j: Job, q: Path) -> Turn
-    requires { Sized t.now n }
-    ensures { result ≡ walk_on (view n t.now) n g j q }
+pub fn walk_on(t: &Slots, g: Goal, j: Job, q: Path) -> Turn
+    ensures { result ≡ walk_on (seen t.now) t.now.n g j q }
 {
     if q.here == 0 {
-        return Turn::Hurt;
+        Turn::Hurt
+    } else {
+        walk_from(t, g, j, q.parent, q.here)
     }
-    walk_from(t, n, g, j, q.parent, q.here)
 }
 
 // A reading: its links are noted, or the walk starts again.
@@ -208,10 +196,51 @@ pub fn read_record(k: Task, formed: bool, good: bool, r: Rec) -> Turn
     ensures { result ≡ reading k formed good r }
 {
     if !formed {
-        return Turn::Hurt;
+        Turn::Hurt
+    } else if good {
+        Turn::Next(k.noted(links_of(r)))
+    } else {
+        Turn::Next(k.restarted())
     }
-    if good {
-        return Turn::Next(k.noted(links_of(r)));
+}
+
+// The reading of slot s, whose noted links must lead on to slot next.
+pub fn read_leading(t: &Slots, k: Task, s: u32, next: u32) -> Outcome
+    ensures { result ≡ calmly (leading_read (seen t.now) t.now.n k s next) }
+{
+    let r = t.at(s);
+    let good = in_tree(r) & lead_to(links_of(r), next);
+    calm_turn(read_record(k, well_formed(t.n, s, r), good, r))
+}
+
+// The reading of slot s, which a link leads to and which need not lead on.
+pub fn read_child(t: &Slots, k: Task, s: u32) -> Outcome
+    ensures { result ≡ calmly (child_read (seen t.now) t.now.n k s) }
+{
+    let r = t.at(s);
+    calm_turn(read_record(k, is_linked(t.n, s, r), in_tree(r), r))
+}
+
+// What stops a commit before its change: a ground of 17, or a record that changed since its reading.
+#[tactic(auto, unfolding(machine::specs::Commit::commit_if, machine::specs::Choice::if_b))]
+pub fn may_change(k: Task, grounds: bool, test: bool) -> Result<(), Turn>
+    ensures { ((d : Did) → commit_if k grounds test d ≡ or_stopped d result) × IfOk result (λ u. grounds ≡ true) }
+{
+    if !grounds {
+        Err(Turn::Hurt)
+    } else if test {
+        Ok(())
+    } else {
+        Err(Turn::Next(k.restarted()))
     }
-    Turn::Next(k.restarted())
+}
+
+// What a step comes to; where it stopped before its change, its turn alone.
+pub fn or_calm(r: Result<Outcome, Turn>) -> Outcome
+    ensures { result ≡ or_calm r }
+{
+    match r {
+        Ok(o) => o,
+        Err(a) => calm_turn(a),
+    }
 }

@@ -1,28 +1,27 @@
 -- From the entry on: its exits, and the first marks.
 use Rattle.std.proofs.Common.{arith}
-use Rattle.reach.proofs.Entry.{entry-fine, entry-hurt, entry_in, entry_length, entry-marked, entry-slot}
+use Rattle.reach.proofs.Entry.{entry-way, entry-hurt, entry_in, entry_length, entry-marked, entry-slot}
 use Rattle.reach.proofs.reach_all.Goals as goal
 
 pub returns-then-not-good : goal.returns-then-not-good
 returns-then-not-good c =
-    entry-hurt _ _ _ c.requires.1 _ c.load-e.ensures _ c.well_formed-2.ensures _ c.in_tree.ensures c.if-not-good.true _ c.lost_below.ensures
+    entry-hurt _ _ _ c.requires _ c.at-e.ensures _ c.well_formed-2.ensures _ c.in_tree.ensures c.if-not-good.true
 
 pub bounds-marks-0 : goal.bounds-marks-0
 bounds-marks-0 c =
-    entry-slot _ _ _ c.requires.1 _ c.load-e.ensures _ c.well_formed-2.ensures _ c.in_tree.ensures c.if-not-good.false
+    entry-slot _ _ _ c.requires _ c.at-e.ensures _ c.well_formed-2.ensures _ c.in_tree.ensures c.if-not-good.false
 
-pub overflow_sub-n : goal.overflow_sub-n
-overflow_sub-n c =
-    entry_in _ _ _ c.requires.1 _ c.load-e.ensures _ c.well_formed-2.ensures _ c.in_tree.ensures c.if-not-good.false
+pub overflow_sub-t : goal.overflow_sub-t
+overflow_sub-t c =
+    entry_in _ _ _ c.requires _ c.at-e.ensures _ c.well_formed-2.ensures _ c.in_tree.ensures c.if-not-good.false
 
 pub down-requires : goal.down-requires
 down-requires c = (
-  c.requires.0,
-  entry_length _ _ _ c.requires.1 _ c.load-e.ensures _ c.well_formed-2.ensures _ c.in_tree.ensures c.if-not-good.false,
-  entry-marked _ _ _ c.requires.1 _ c.load-e.ensures _ c.well_formed-2.ensures _ c.in_tree.ensures c.if-not-good.false,
+  entry_length _ _ _ c.requires _ c.at-e.ensures _ c.well_formed-2.ensures _ c.in_tree.ensures c.if-not-good.false,
+  entry-marked _ _ _ c.requires _ c.at-e.ensures _ c.well_formed-2.ensures _ c.in_tree.ensures c.if-not-good.false,
   omega arith,
 )
 
 pub returns : goal.returns
 returns c =
-    entry-fine _ _ _ c.requires.1 _ c.load-e.ensures _ c.well_formed-2.ensures _ c.in_tree.ensures c.if-not-good.false _ _ c.down.ensures
+    entry-way _ _ _ c.requires _ c.at-e.ensures _ c.well_formed-2.ensures _ c.in_tree.ensures c.if-not-good.false _ _ c.down.ensures

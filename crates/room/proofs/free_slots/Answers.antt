@@ -1,7 +1,8 @@
 -- The slot found is the next one; where there is none, there are not so many.
 use Rattle.std.proofs.Common.{◌≡◌, ◌<◌, ◌+◌, refl, sym, ap, add-one, arith, ◌∙◌, take_all, length-set}
 use Rattle.std.proofs.Math.Seq.{take-suc-set}
-use Rattle.machine.specs.Table.{view, free}
+use Rattle.fields.specs.Writes.{seen}
+use Rattle.machine.specs.Table.{free}
 use Rattle.room.specs.Found.{lowest}
 use Rattle.room.proofs.Slots.{too_few, below_more}
 use Rattle.room.proofs.free_slots.Goals as goal
@@ -12,12 +13,12 @@ returns-in_err-s g c = rw c.from_residual.ensures (too_few _ _ _ _ _ c.loop-i-te
 pub loop-i-preserved : goal.loop-i-preserved
 loop-i-preserved g c =
     let found = c.in_ok-s.ensures in
-    let next = found.0 ∙ ap (free (view c.args.n c.args.t.now) c.args.n) c.loop-i.invariant.goes in
+    let next = found.0 ∙ ap (free (seen c.args.t.now) c.args.t.now.n) c.loop-i.invariant.goes in
     let long = c.loop-i.invariant.long in
     rw (add-one c.loop-i.i) record {
       goes = ap (λ x. x + 1) next;
       long = length-set c.loop-i.slots c.loop-i.i _ ∙ long;
-      near = omega (arith, found.2, c.requires);
+      near = omega (arith, found.2);
       kept = rw (take-suc-set c.loop-i.slots c.loop-i.i c.in_ok-s.s (rw long c.loop-i-test.true), c.loop-i.invariant.kept, next) refl;
       below = rw (← next) (below_more _ _ _ c.loop-i.invariant.below found.2);
     }
@@ -27,4 +28,4 @@ returns g c =
     let e : c.loop-i.i ≡ g.row.N = omega (arith, c.loop-i-test.false) in
     let all = take_all c.loop-i.i c.loop-i.slots (omega (arith, c.loop-i.invariant.long)) in
     let slots = sym all ∙ c.loop-i.invariant.kept in
-    (slots ∙ ap (lowest (view c.args.n c.args.t.now) c.args.n) e, rw slots c.loop-i.invariant.below)
+    (slots ∙ ap (lowest (seen c.args.t.now) c.args.t.now.n) e, rw slots c.loop-i.invariant.below)
