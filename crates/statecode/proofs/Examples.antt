@@ -4,6 +4,7 @@ use mathlib.Core.Bool.{Bool, true, false}
 use mathlib.Core.List.{List, [], ◌∷◌, ◌++◌, map}
 use Prim.Native.Nat.{ℕ}
 use lib.ListN.{replicate}
+use Rattle.std.specs.Prelude.{is_some}
 use Rattle.terms.specs.declared.Goal.TheVariants.{Settle}
 use Rattle.terms.specs.declared.Phase.TheVariants.{Walk}
 use Rattle.terms.specs.Task.{busy, no_grand}
@@ -30,7 +31,7 @@ unfolding encode rows
 walking = refl
 
 abbrev pub fine : List (List ℕ) → List Bool
-fine ws = map (λ (w : List ℕ). (decode w).fine) ws
+fine ws = map (λ (w : List ℕ). is_some (decode w)) ws
 
 abbrev pub states : List (List ℕ)
 states =

@@ -1,6 +1,6 @@
 -- Encoding and decoding are inverse to each other.
 use mathlib.Core.Path.{◌≡◌, refl, sym, ap, subst, ◌∙◌}
-use mathlib.Core.Bool.{true}
+use mathlib.Core.Bool.{true, false}
 use mathlib.Core.List.{List, [], ◌∷◌, ◌++◌, append_assoc}
 use Prim.Native.Nat.{ℕ, ◌*◌}
 use native.Mathlib.Omega.{arith}
@@ -18,9 +18,8 @@ use Rattle.terms.specs.declared.Work.TheVariants.{Idle, Busy}
 use Rattle.terms.specs.declared.Task.{Task}
 use Rattle.terms.specs.declared.State.{State}
 use Rattle.machine.specs.Choice.{if_b}
-use Rattle.machine.proofs.Choice.{if_elim}
-use Rattle.statecode.specs.declared.GotState.{GotState}
-use Rattle.statecode.specs.Code.{goal_number, goal_by, work_row, rows, encode, put_by, take_by, settle_by, phase_by, task_by, tasks_by, state_by, is_state, got, decode}
+use Rattle.std.specs.Prelude.{Some, None}
+use Rattle.statecode.specs.Code.{goal_number, goal_by, work_row, rows, encode, put_by, take_by, settle_by, phase_by, task_by, tasks_by, state_by, is_state, decode}
 use Rattle.statecode.proofs.Same.{same_self, same-equal}
 
 goal_back : (g : Goal) → goal_by (goal_number g) ≡ g
@@ -116,17 +115,20 @@ module _ (st : State) (h : length st.tasks ≡ 8) where
   state-own = rw state-back (same_self (encode st))
 
   -- so it decodes as this state
-  pub decode-encode : decode (encode st) ≡ got st
+  pub decode-encode : decode (encode st) ≡ Some st
   unfolding decode is_state if_b
   decode-encode = simp (state-back, same_self (encode st))
 
--- what reads as a state is written so
-module _ (w : List ℕ) where
-  pub encode-decode : (decode w).fine ≡ true → encode (decode w).state ≡ w
-  unfolding decode is_state
-  encode-decode = if_elim (λ (g : GotState). g.fine ≡ true → encode g.state ≡ w) (is_state w) (λ e h. same-equal (encode (state_by w)) w e) (λ e h. absurd (let z : ◌≡◌ {A = ℕ} 0 1 = cc in omega arith))
+-- what reads as a state is written so, and has eight tasks
+module _ (w : List ℕ) (st : State) where
+  read_is : decode w ≡ Some st → (is_state w ≡ true) × (state_by w ≡ st)
+  unfolding decode if_b
+  read_is = elim (is_state w) as (λ b. if_b b (Some (state_by w)) None ≡ Some st → (b ≡ true) × (state_by w ≡ st)) [ true ↦ (λ e. (refl, cc)) | false ↦ (λ e. absurd (cc)) ]
 
-  -- what is read has eight tasks
-  pub eight-read : length (decode w).state.tasks ≡ 8
-  unfolding decode state_by tasks_by
-  eight-read = if_elim (λ (g : GotState). length g.state.tasks ≡ 8) (is_state w) (λ e. refl) (λ e. refl)
+  pub encode-decode : decode w ≡ Some st → encode st ≡ w
+  unfolding is_state
+  encode-decode e = same-equal (encode st) w (let (t, s) = read_is e in rw (← s) t)
+
+  pub eight-read : decode w ≡ Some st → length st.tasks ≡ 8
+  unfolding state_by tasks_by
+  eight-read e = rw (← (read_is e).1) refl

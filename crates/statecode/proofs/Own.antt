@@ -1,21 +1,28 @@
 -- Numbers are a state where those of each task are its own; and one task of a state read or written by itself.
 use mathlib.Core.Path.{◌≡◌, refl, sym, ap, ◌∙◌}
-use mathlib.Core.Bool.{Bool, true, false, not, ◌&&◌}
-use mathlib.Core.List.{List, [], ◌∷◌, ◌++◌, append_assoc}
-use Prim.Native.Nat.{ℕ, zero, suc, ◌+◌, ◌-◌, ◌*◌, ◌≤◌, ◌<◌}
+use mathlib.Core.Bool.{Bool, true, false, ◌&&◌}
+use mathlib.Core.List.{List, [], ◌∷◌, ◌++◌, map, append_assoc}
+use Prim.Native.Nat.{ℕ, zero, suc, ◌+◌, ◌*◌, ◌≤◌, ◌<◌}
 use native.Mathlib.Omega.{arith}
 use lib.Dec.{eqb, leb}
 use lib.ListN.{length, get_or, take, drop, set, length-append, length-drop, length-set, drop_of_length-le}
 use lib.Seq.{drop-cons, drop-drop, drop_at, take_at, take_all, set_at, set_split, split_at, paste, append_snoc, length-take-le}
-use borrow.Author.Tests.{le-leb, not-true, not-false}
+use borrow.Author.Tests.{le-leb}
+use Rattle.std.specs.List.{list_all, count_by}
+use Rattle.std.specs.Simd.{first_chunks}
+use Rattle.std.proofs.lemmas.List.{get_or-take, length-take}
+use Rattle.std.proofs.lemmas.List.Folds.{fold-map}
+use Rattle.std.proofs.lemmas.List.FromFn.{fill_by_all}
+use Rattle.std.proofs.Common.{lit<, cond}
 use Rattle.terms.specs.declared.Task.{Task}
 use Rattle.terms.specs.declared.State.{State}
 use Rattle.terms.specs.Task.{idle_task, work_settles}
-use Rattle.machine.specs.State.{one, settling, count_open, sound}
-use Rattle.statecode.specs.Code.{work_row, rows, encode, task_by, tasks_by, state_by, same_numbers, is_state, no_state, decode}
-use Rattle.machine.specs.Choice.{if_b}
+use Rattle.machine.specs.State.{one, settling, count_open, sound, task_at}
+use Rattle.machine.proofs.Count.{settling_counted}
+use Rattle.statecode.specs.Code.{work_row, rows, encode, phase_by, put_by, take_by, settle_by, task_by, tasks_by, state_by, same_numbers, is_state}
 use Rattle.statecode.specs.Own.{own_row, own_rows, storing}
-use Rattle.statecode.proofs.Writing.{rows_append, part_all}
+use Rattle.statecode.specs.Walking.{walker_by}
+use Rattle.statecode.proofs.Writing.{rows_append}
 use Rattle.statecode.proofs.Same.{same_self, same-equal}
 use Rattle.statecode.proofs.Inverse.{length_row, length_rows, length_encode, state-back, state-own}
 
@@ -87,26 +94,17 @@ module _ (w : List ℕ) (h : length w ≡ 122) where
   unfolding is_state encode state_by
   own-all = rw (← last_two) (own_first 8 w (omega arith))
 
-pub own-next :
-    (w : List ℕ) (i : ℕ) → i < 8
-    → own_rows (8 - i) (drop (15 * i) w) ≡ (own_row (drop (15 * i) w) && own_rows (8 - (i + 1)) (drop (15 * (i + 1)) w))
-unfolding own_rows
-own-next w i h =
-    let e : 8 - i ≡ suc (8 - (i + 1)) = omega arith in
-    let d : 15 * i + 15 ≡ 15 * (i + 1) = omega arith in
-    rw (e, drop-drop 15 (15 * i) w, d) refl
-
-pub own-none : (w : List ℕ) (i : ℕ) → i ≡ 8 → own_rows (8 - i) (drop (15 * i) w) ≡ true
-unfolding own_rows
-own-none w i e = rw e refl
-
 unless-true : (b : Bool) → (b ≡ true → ⊥) → b ≡ false
 unless-true true h = absurd (h refl)
 unless-true false h = refl
 
+eight-read : (w : List ℕ) → length (tasks_by 8 w) ≡ 8
+unfolding tasks_by
+eight-read w = refl
+
 pub eight : (w : List ℕ) → length (state_by w).tasks ≡ 8
-unfolding state_by tasks_by
-eight w = refl
+unfolding state_by
+eight w = eight-read w
 
 -- what is a state is what it is written as
 pub own-encode : (w : List ℕ) → is_state w ≡ true → encode (state_by w) ≡ w
@@ -221,22 +219,6 @@ module _ (w now last : List ℕ) (i : ℕ) (k : Task) (m u : ℕ) (r : List ℕ)
   pub stored-own : is_state last ≡ true
   stored-own = own-stored w last i k m u stored-in
 
--- the task of a part to the end
-pub part_task : (w : List ℕ) (i : ℕ) → i < 8 → task_by (take (length w - 15 * i) (drop (15 * i) w)) ≡ get_or (state_by w).tasks i idle_task
-unfolding state_by
-part_task w i h = rw (part_all w (15 * i)) (sym (task_alone 8 w i h))
-
--- a part's row, as the code goes through them
-module _ (w : List ℕ) (i : ℕ) (h : i < 8) (e : is_state w ≡ own_rows (8 - i) (drop (15 * i) w)) (b : Bool) (eb : b ≡ own_row (take (length w - 15 * i) (drop (15 * i) w))) where
-  own-part : b ≡ own_row (drop (15 * i) w)
-  own-part = eb ∙ rw (part_all w (15 * i)) refl
-
-  pub part_stops : not b ≡ true → false ≡ is_state w
-  part_stops f = sym (e ∙ own-next w i h ∙ rw (← own-part, not-true b f) refl)
-
-  pub part_goes : not b ≡ false → is_state w ≡ own_rows (8 - (i + 1)) (drop (15 * (i + 1)) w)
-  part_goes f = e ∙ own-next w i h ∙ rw (← own-part, not-false b f) refl
-
 -- whether m and u are in range, with and without a count of the tasks
 module _ (w : List ℕ) (m u : ℕ) (em : m ≡ get_or w 120 0) (eu : u ≡ get_or w 121 0) where
   pub sound-counted : (n : ℕ) → n ≡ settling (state_by w).tasks 8 → (leb m 1000000 && leb (u + n) m) ≡ sound (state_by w)
@@ -249,15 +231,81 @@ module _ (w : List ℕ) (m u : ℕ) (em : m ≡ get_or w 120 0) (eu : u ≡ get_
       let z : leb (u + n) m ≡ true = le-leb (u + n) m (omega (arith, eight-settling (state_by w).tasks 8)) in
       sym (rw z (both_true (leb m 1000000))) ∙ sound-counted n refl
 
--- decoding, by the test
-module _ (w : List ℕ) (b : Bool) (eb : b ≡ is_state w) where
-  pub none_read : not b ≡ true → no_state ≡ decode w
-  unfolding decode if_b
-  none_read t = simp (← eb, not-true b t)
+-- the first 15 numbers say all of a task
+module _ (w : List ℕ) where
+  task_first : task_by (take 15 w) ≡ task_by w
+  unfolding task_by phase_by put_by take_by settle_by
+  task_first =
+      simp (
+        get_or-take 15 w 0 0 (lit< tt),
+        get_or-take 15 w 1 0 (lit< tt),
+        get_or-take 15 w 2 0 (lit< tt),
+        get_or-take 15 w 3 0 (lit< tt),
+        get_or-take 15 w 4 0 (lit< tt),
+        get_or-take 15 w 5 0 (lit< tt),
+        get_or-take 15 w 6 0 (lit< tt),
+        get_or-take 15 w 7 0 (lit< tt),
+        get_or-take 15 w 8 0 (lit< tt),
+        get_or-take 15 w 9 0 (lit< tt),
+        get_or-take 15 w 10 0 (lit< tt),
+        get_or-take 15 w 11 0 (lit< tt),
+        get_or-take 15 w 12 0 (lit< tt),
+        get_or-take 15 w 13 0 (lit< tt),
+        get_or-take 15 w 14 0 (lit< tt),
+      )
 
-  pub some_read : not b ≡ false → (st : State) → st ≡ state_by w → record { fine = true; state = st } ≡ decode w
-  unfolding decode if_b
-  some_read f st es = simp (← eb, not-false b f, es)
+  own_first_row : own_row (take 15 w) ≡ own_row w
+  unfolding own_row
+  own_first_row = rw (task_first, take_all 15 (take 15 w) (omega (arith, length-take 15 w))) refl
 
-  pub some_length : not b ≡ false → length w ≡ 122
-  some_length f = own-length w (sym eb ∙ not-false b f)
+-- the parts of 15 numbers, one after another
+rows_own : (c : ℕ) (w : List ℕ) → list_all own_row (first_chunks 15 c w) ≡ own_rows c w
+unfolding own_rows
+rows_own zero w = refl
+rows_own (suc c) w = rw (own_first_row w, rows_own c (drop 15 w)) refl
+
+rows_tasks : (c : ℕ) (w : List ℕ) → map task_by (first_chunks 15 c w) ≡ tasks_by c w
+unfolding tasks_by
+rows_tasks zero w = refl
+rows_tasks (suc c) w = rw (task_first w, rows_tasks c (drop 15 w)) refl
+
+pub row_part : (c i : ℕ) (w d : List ℕ) → i < c → get_or (first_chunks 15 c w) i d ≡ take 15 (drop (15 * i) w)
+row_part zero i w d h = absurd (omega arith)
+row_part (suc c) zero w d h = refl
+row_part (suc c) (suc i) w d h =
+    let e : 15 + 15 * i ≡ 15 * suc i = omega arith in
+    row_part c i (drop 15 w) d (omega arith) ∙ rw (drop-drop (15 * i) 15 w, e) refl
+
+-- all parts of a state's numbers
+pub all_own : (w : List ℕ) → length w ≡ 122 → list_all own_row (first_chunks 15 8 w) ≡ is_state w
+all_own w h = rows_own 8 w ∙ sym (own-all w h)
+
+-- task i by its part
+pub task_part : (w : List ℕ) (i : ℕ) → i < 8 → task_by (take 15 (drop (15 * i) w)) ≡ task_at (state_by w) i
+unfolding state_by
+task_part w i h = task_first (drop (15 * i) w) ∙ sym (task_alone 8 w i h)
+
+pub walker_part : (w : List ℕ) (i : ℕ) → walker_by (take 15 (drop (15 * i) w)) ≡ walker_by (drop (15 * i) w)
+walker_part w i =
+    let v : List ℕ = drop (15 * i) w in
+    simp (
+      get_or-take 15 v 0 0 (lit< tt),
+      get_or-take 15 v 1 0 (lit< tt),
+      get_or-take 15 v 2 0 (lit< tt),
+      get_or-take 15 v 3 0 (lit< tt),
+      get_or-take 15 v 5 0 (lit< tt),
+      get_or-take 15 v 6 0 (lit< tt),
+    )
+
+-- the tasks that settle, counted part by part
+pub rows_settling : (w : List ℕ) → count_by (λ r. work_settles (task_by r).work) (first_chunks 15 8 w) ≡ settling (state_by w).tasks 8
+unfolding state_by
+rows_settling w =
+    sym (fold-map (λ n k. n + cond (work_settles k.work) 1 0) task_by 0 (first_chunks 15 8 w))
+    ∙ ap (count_by (λ k. work_settles k.work)) (rows_tasks 8 w) ∙ settling_counted (tasks_by 8 w) (eight-read w)
+
+-- eight tasks, each read from its part
+pub tasks_read : (w : List ℕ) (ts : List Task) → length ts ≡ 8 → ((i : ℕ) → i < 8 → get_or ts i idle_task ≡ task_by (take 15 (drop (15 * i) w))) → ts ≡ tasks_by 8 w
+tasks_read w ts h each =
+    fill_by_all (λ i. task_by (take 15 (drop (15 * i) w))) ts 8 idle_task h each
+    ∙ sym (fill_by_all (λ i. task_by (take 15 (drop (15 * i) w))) (tasks_by 8 w) 8 idle_task (eight-read w) (λ i l. task_alone 8 w i l ∙ sym (task_first (drop (15 * i) w))))

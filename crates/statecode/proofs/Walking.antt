@@ -1,12 +1,11 @@
 -- A walker's numbers: the first seven written store the task, since the rest of its fifteen are 0.
 use mathlib.Core.Path.{◌≡◌, refl, sym, ap, ◌∙◌}
 use mathlib.Core.Bool.{true}
-use mathlib.Core.List.{List, [], ◌∷◌, ◌++◌}
-use Prim.Native.Nat.{ℕ, zero, suc, ◌+◌, ◌*◌, ◌<◌}
-use native.Mathlib.Nat.{add-zero}
+use mathlib.Core.List.{List, ◌++◌, append_assoc}
+use Prim.Native.Nat.{ℕ, ◌*◌, ◌<◌}
 use native.Mathlib.Omega.{arith}
-use lib.ListN.{length, get_or, drop, set}
-use lib.Seq.{drop_at}
+use lib.ListN.{length, get_or, drop}
+use lib.Seq.{take_at, drop_at, drop-drop}
 use Rattle.terms.specs.declared.Path.{Path}
 use Rattle.terms.specs.declared.Job.{Job}
 use Rattle.terms.specs.declared.Phase.TheVariants.{Start, Walk, PuttingIn, TakingOut, Settling}
@@ -22,31 +21,11 @@ use Rattle.statecode.specs.Own.{storing}
 use Rattle.statecode.specs.Walking.{walker_by, no_notes, put_first}
 use Rattle.statecode.proofs.Own.{own-encode, eight, task_alone, front, own, later, ends, length_front, whole, set_whole, as_stored, own-stored}
 
--- a place behind a front is a place of the rest
-set_behind : (a l : List ℕ) (n d v : ℕ) → length a ≡ n → set (a ++ l) (n + d) v ≡ a ++ set l d v
-set_behind [] l zero d v h = let z : 0 + d ≡ d = omega arith in ap (λ (m : ℕ). set l m v) z
-set_behind [] l (suc n) d v h = absurd (omega arith)
-set_behind (x ∷ a) l zero d v h = absurd (omega arith)
-set_behind (x ∷ a) l (suc n) d v h =
-    let z : suc n + d ≡ suc (n + d) = omega arith in
-    ap (λ (m : ℕ). set (x ∷ (a ++ l)) m v) z ∙ ap (λ (y : List ℕ). x ∷ y) (set_behind a l n d v (omega arith))
-
 -- seven numbers behind a front
 first-behind :
     (a l : List ℕ) (n f : ℕ) (j : Job) (k : ℕ) (q : Path) → length a ≡ n → put_first (a ++ l) n f j k q ≡ a ++ put_first l 0 f j k q
 unfolding put_first
-first-behind a l n f j k q h =
-    let z : n ≡ n + 0 = sym (add-zero n) in
-    ap (λ (m : ℕ). set (set (set (set (set (set (set (a ++ l) m f) (n + 1) j.number) (n + 2) j.price) (n + 3) k) (n + 4) q.grand) (n + 5) q.parent) (n + 6) q.here) z
-    ∙ rw (
-      set_behind a l n 0 f h,
-      set_behind a (set l 0 f) n 1 j.number h,
-      set_behind a (set (set l 0 f) 1 j.number) n 2 j.price h,
-      set_behind a (set (set (set l 0 f) 1 j.number) 2 j.price) n 3 k h,
-      set_behind a (set (set (set (set l 0 f) 1 j.number) 2 j.price) 3 k) n 4 q.grand h,
-      set_behind a (set (set (set (set (set l 0 f) 1 j.number) 2 j.price) 3 k) 4 q.grand) n 5 q.parent h,
-      set_behind a (set (set (set (set (set (set l 0 f) 1 j.number) 2 j.price) 3 k) 4 q.grand) 5 q.parent) n 6 q.here h,
-    ) refl
+first-behind a l n f j k q h = rw (take_at a l n h, ← drop-drop 7 n (a ++ l), drop_at a l n h) (append_assoc a _ _)
 
 -- over the row of a task without notes they are all of a row
 first-row :

@@ -1,5 +1,6 @@
 -- A state as numbers, and back (docs/PROBE.md): eight tasks of 15 numbers each, then m, then u.
-use Rattle.std.specs.Prelude.{ℕ, zero, suc, ◌+◌, Bool, true, false, ◌&&◌, List, [], ◌∷◌, ◌++◌, eqb, get_or, drop}
+use Rattle.std.specs.Prelude.{ℕ, zero, suc, ◌+◌, Bool, true, false, ◌&&◌, List, [], ◌∷◌, ◌++◌, eqb, get_or, drop, Some, None}
+use Rattle.std.specs.declared.option.Option.{Option}
 use Rattle.terms.specs.declared.Links.{Links}
 use Rattle.terms.specs.declared.Path.{Path}
 use Rattle.terms.specs.declared.Job.{Job}
@@ -20,8 +21,6 @@ use Rattle.terms.specs.declared.Task.{Task}
 use Rattle.terms.specs.declared.State.{State}
 use Rattle.terms.specs.Task.{idle_task, busy}
 use Rattle.machine.specs.Choice.{if_b}
-use Rattle.machine.specs.State.{fresh_state}
-use Rattle.statecode.specs.declared.GotState.{GotState}
 
 -- "the goal, 1 look up, 2 put in, 3 take out, 4 settle"
 abbrev pub goal_number : Goal → ℕ
@@ -169,14 +168,6 @@ same_numbers (x ∷ xs) (y ∷ ys) = eqb x y && same_numbers xs ys
 unfoldable pub is_state : List ℕ → Bool
 is_state w = same_numbers (encode (state_by w)) w
 
--- a state
-abbrev pub got : State → GotState
-got st = record { fine = true; state = st }
-
--- no state
-abbrev pub no_state : GotState
-no_state = record { fine = false; state = fresh_state }
-
 -- the state of a row of numbers, if it is one
-unfoldable pub decode : List ℕ → GotState
-decode w = if_b (is_state w) (got (state_by w)) no_state
+unfoldable pub decode : List ℕ → Option State
+decode w = if_b (is_state w) (Some (state_by w)) None

@@ -1,5 +1,5 @@
 -- Whether numbers are a state, task by task.
-use Rattle.std.specs.Prelude.{ℕ, zero, suc, ◌+◌, Bool, true, false, ◌&&◌, List, eqb, get_or, take, drop, set}
+use Rattle.std.specs.Prelude.{ℕ, zero, suc, Bool, true, false, ◌&&◌, List, eqb, leb, take, drop, set, fold, slice_range}
 use Rattle.machine.specs.Choice.{if_b}
 use Rattle.terms.specs.declared.Task.{Task}
 use Rattle.terms.specs.declared.State.{State}
@@ -9,36 +9,31 @@ use Rattle.statecode.specs.Code.{goal_number, goal_by, work_row, task_by, same_n
 unfoldable pub own_row : List ℕ → Bool
 own_row w = same_numbers (work_row (task_by w).work) (take 15 w)
 
--- so many places from one on are 0
-unfoldable pub clear_from : ℕ → ℕ → List ℕ → Bool
-clear_from from zero w = true
-clear_from from (suc n) w = clear_from from n w && eqb 0 (get_or w (from + n) 0)
+-- all of 15 places from one on are 0
+unfoldable pub clear_from : ℕ → List ℕ → Bool
+clear_from from w = fold (λ clear x. clear && eqb x 0) true (slice_range w from 15)
 
 -- a goal's number
 unfoldable pub own_goal : ℕ → Bool
 own_goal k = eqb (goal_number (goal_by k)) k
 
--- up to two records read, or up to four: the places behind their links
-unfoldable pub own_two : ℕ → List ℕ → Bool
-own_two k w = if_b (eqb k 0) (clear_from 7 8 w) (if_b (eqb k 1) (clear_from 9 6 w) (if_b (eqb k 2) (clear_from 11 4 w) false))
-
--- the same of take-outs and settling tasks
-unfoldable pub own_four : ℕ → List ℕ → Bool
-own_four k w =
-    if_b (eqb k 0) (clear_from 7 8 w)
-    (if_b (eqb k 1) (clear_from 9 6 w)
-    (if_b (eqb k 2) (clear_from 11 4 w)
-    (if_b (eqb k 3) (clear_from 13 2 w) (eqb k 4))))
+-- with k records read, four at most: the places behind their links
+unfoldable pub own_noted : ℕ → List ℕ → Bool
+own_noted k w =
+    if_b (eqb k 0) (clear_from 7 w)
+    (if_b (eqb k 1) (clear_from 9 w)
+    (if_b (eqb k 2) (clear_from 11 w)
+    (if_b (eqb k 3) (clear_from 13 w) (eqb k 4))))
 
 -- the same as own_row, by phase and count: "A place that a phase does not use is 0"
 unfoldable pub own_by : ℕ → ℕ → List ℕ → Bool
 own_by f k w =
-    if_b (eqb f 0) (clear_from 1 14 w)
-    (if_b (eqb f 1) (own_goal k && clear_from 4 11 w)
-    (if_b (eqb f 2) (own_goal k && clear_from 7 8 w)
-    (if_b (eqb f 3) (own_two k w)
-    (if_b (eqb f 4) (own_four k w)
-    (if_b (eqb f 5) (own_four k w) false)))))
+    if_b (eqb f 0) (clear_from 1 w)
+    (if_b (eqb f 1) (own_goal k && clear_from 4 w)
+    (if_b (eqb f 2) (own_goal k && clear_from 7 w)
+    (if_b (eqb f 3) (leb k 2 && own_noted k w)
+    (if_b (eqb f 4) (own_noted k w)
+    (if_b (eqb f 5) (own_noted k w) false)))))
 
 -- so for so many tasks
 unfoldable pub own_rows : ℕ → List ℕ → Bool

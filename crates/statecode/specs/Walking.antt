@@ -1,5 +1,6 @@
 -- A task on its way, read and written without its notes: the first seven numbers of its fifteen.
-use Rattle.std.specs.Prelude.{ℕ, ◌+◌, Bool, true, false, List, get_or, set}
+use Rattle.std.specs.Prelude.{ℕ, Bool, true, false, List, [], ◌∷◌, get_or}
+use Rattle.std.proofs.Math.Seq.{paste}
 use Rattle.terms.specs.declared.Path.{Path}
 use Rattle.terms.specs.declared.Job.{Job}
 use Rattle.terms.specs.declared.Phase.TheVariants.{Start, Walk, PuttingIn, TakingOut, Settling}
@@ -24,4 +25,4 @@ no_notes (Busy j (Settling q s)) = false
 -- the first seven numbers of a task, from a place on
 unfoldable pub put_first : List ℕ → ℕ → ℕ → Job → ℕ → Path → List ℕ
 put_first w b f j k q =
-    set (set (set (set (set (set (set w b f) (b + 1) j.number) (b + 2) j.price) (b + 3) k) (b + 4) q.grand) (b + 5) q.parent) (b + 6) q.here
+    paste w b (f ∷ j.number ∷ j.price ∷ k ∷ q.grand ∷ q.parent ∷ q.here ∷ []) 7

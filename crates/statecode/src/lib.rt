@@ -1,24 +1,18 @@
 // A state as 122 numbers, and back (docs/PROBE.md): eight tasks of 15 numbers each, then m, then u.
 #![tactic(auto)]
 
-ghost use Rattle.std.specs.Prelude.{◌≡◌, ◌++◌, ◌+◌, ◌*◌, ◌≤◌, ◌<◌, length, get_or, take, drop, set, true};
+ghost use Rattle.std.specs.Prelude.{◌≡◌, ◌++◌, ◌+◌, ◌-◌, ◌*◌, ◌≤◌, ◌<◌, length, take, drop, set, true, ℕ, slice_index_or};
+ghost use Rattle.std.specs.List.{list_all};
 ghost use Rattle.std.proofs.Math.Seq.{paste};
-ghost use Rattle.terms.specs.Task.{work_settles};
+ghost use Rattle.terms.specs.Task.{idle_task, work_settles};
 ghost use Rattle.machine.specs.State.{settling, sound, task_at};
 ghost use Rattle.statecode.specs.Walking.{walker_by, put_first};
-ghost use Rattle.statecode.specs.Own.{clear_from, own_goal, own_two, own_four, own_by, own_row, storing};
-ghost use Rattle.statecode.specs.Code.{is_state, goal_number, no_links, no_path, places, put_row, take_row, settle_row, phase_row, work_row, rows, encode, job_by, path_by, links_by, goal_by, put_by, take_by, settle_by, phase_by, task_by, state_by, same_numbers, no_state, decode};
+ghost use Rattle.statecode.specs.Own.{clear_from, own_goal, own_noted, own_by, own_row, storing};
+ghost use Rattle.statecode.specs.Code.{is_state, goal_number, no_links, places, put_row, take_row, settle_row, phase_row, work_row, rows, encode, job_by, path_by, links_by, goal_by, put_by, take_by, settle_by, phase_by, task_by, state_by, decode};
 
-use state::{fresh_state, one_if};
 use terms::{
     Goal, Job, Links, Operation, Path, Phase, PutStage, SettleStage, State, TakeStage, Task, Work,
 };
-
-// The numbers of one task.
-#[derive(Clone, Copy)]
-pub struct Row {
-    pub at: [u32; 15],
-}
 
 // A task on its way, without its notes: its numbers 0 to 3, 5 and 6.
 #[derive(Clone, Copy)]
@@ -30,48 +24,33 @@ pub struct Walker {
     pub here: u32,
 }
 
-// A state, or numbers that are none.
-#[derive(Clone, Copy)]
-pub struct GotState {
-    pub fine: bool,
-    pub state: State,
-}
-
+// Goal stands in the crate terms, and its numbers in this code alone, so they are no From there.
 pub fn goal_number(g: Goal) -> u32
     ensures { result ≡ goal_number g }
 {
     match g {
-        Goal::Serve(o) => match o {
-            Operation::LookUp => 1,
-            Operation::PutIn => 2,
-            Operation::TakeOut => 3,
-        },
+        Goal::Serve(Operation::LookUp) => 1,
+        Goal::Serve(Operation::PutIn) => 2,
+        Goal::Serve(Operation::TakeOut) => 3,
         Goal::Settle => 4,
     }
 }
 
-fn no_links() -> Links
-    ensures { result ≡ no_links }
-{
-    Links { left: 0, right: 0 }
-}
-
 // The 15 places of a task.
-fn places_of(f: u32, j: Job, k: u32, q: Path, a: Links, b: Links, c: Links, d: Links) -> Row
-    ensures { result.at ≡ places f j k q a b c d }
+fn places_of(f: u32, j: Job, k: u32, q: Path, a: Links, b: Links, c: Links, d: Links) -> [u32; 15]
+    ensures { result ≡ places f j k q a b c d }
 {
-    Row {
-        at: [
-            f, j.number, j.price, k, q.grand, q.parent, q.here, a.left, a.right, b.left, b.right,
-            c.left, c.right, d.left, d.right,
-        ],
-    }
+    [
+        f, j.number, j.price, k, q.grand, q.parent, q.here, a.left, a.right, b.left, b.right,
+        c.left, c.right, d.left, d.right,
+    ]
 }
 
-fn put_row(j: Job, q: Path, s: PutStage) -> Row
-    ensures { result.at ≡ put_row j q s }
+// The stages are three enums of the crate terms, whose variants hold their links in fields of their own: a text each is plainer.
+fn put_row(j: Job, q: Path, s: PutStage) -> [u32; 15]
+    ensures { result ≡ put_row j q s }
 {
-    let o = no_links();
+    let o = Links::default();
     match s {
         PutStage::PutParent => places_of(3, j, 0, q, o, o, o, o),
         PutStage::PutLeaf(a) => places_of(3, j, 1, q, a, o, o, o),
@@ -79,10 +58,10 @@ fn put_row(j: Job, q: Path, s: PutStage) -> Row
     }
 }
 
-fn take_row(j: Job, q: Path, s: TakeStage) -> Row
-    ensures { result.at ≡ take_row j q s }
+fn take_row(j: Job, q: Path, s: TakeStage) -> [u32; 15]
+    ensures { result ≡ take_row j q s }
 {
-    let o = no_links();
+    let o = Links::default();
     match s {
         TakeStage::TakeGrand => places_of(4, j, 0, q, o, o, o, o),
         TakeStage::TakeParent(a) => places_of(4, j, 1, q, a, o, o, o),
@@ -92,10 +71,10 @@ fn take_row(j: Job, q: Path, s: TakeStage) -> Row
     }
 }
 
-fn settle_row(j: Job, q: Path, s: SettleStage) -> Row
-    ensures { result.at ≡ settle_row j q s }
+fn settle_row(j: Job, q: Path, s: SettleStage) -> [u32; 15]
+    ensures { result ≡ settle_row j q s }
 {
-    let o = no_links();
+    let o = Links::default();
     match s {
         SettleStage::SettleGrand => places_of(5, j, 0, q, o, o, o, o),
         SettleStage::SettleParent(a) => places_of(5, j, 1, q, a, o, o, o),
@@ -106,28 +85,18 @@ fn settle_row(j: Job, q: Path, s: SettleStage) -> Row
 }
 
 // A walker's numbers: its phase, its goal and its path.
-fn walk_row(f: u32, j: Job, g: Goal, q: Path) -> Row
-    ensures { result.at ≡ places f j (goal_number g) q no_links no_links no_links no_links }
+fn walk_row(f: u32, j: Job, g: Goal, q: Path) -> [u32; 15]
+    ensures { result ≡ places f j (goal_number g) q no_links no_links no_links no_links }
 {
-    let o = no_links();
+    let o = Links::default();
     places_of(f, j, goal_number(g), q, o, o, o, o)
 }
 
-pub fn no_path() -> Path
-    ensures { result ≡ no_path }
-{
-    Path {
-        grand: 0,
-        parent: 0,
-        here: 0,
-    }
-}
-
-fn phase_row(j: Job, f: Phase) -> Row
-    ensures { result.at ≡ phase_row j f }
+fn phase_row(j: Job, f: Phase) -> [u32; 15]
+    ensures { result ≡ phase_row j f }
 {
     match f {
-        Phase::Start(g) => walk_row(1, j, g, no_path()),
+        Phase::Start(g) => walk_row(1, j, g, Path::default()),
         Phase::Walk(g, q) => walk_row(2, j, g, q),
         Phase::PuttingIn(q, s) => put_row(j, q, s),
         Phase::TakingOut(q, s) => take_row(j, q, s),
@@ -136,53 +105,43 @@ fn phase_row(j: Job, f: Phase) -> Row
 }
 
 // The 15 numbers of a task.
-fn row_of(k: Task) -> Row
-    ensures { result.at ≡ work_row k.work }
+fn row_of(k: Task) -> [u32; 15]
+    ensures { result ≡ work_row k.work }
 {
-    let w = k.work;
-    match w {
-        Work::Idle => Row { at: [0; 15] },
+    match k.work {
+        Work::Idle => [0; 15],
         Work::Busy(j, f) => phase_row(j, f),
     }
 }
 
-// The 15 numbers are written from a place on.
-fn put_row_at(w: &mut [u32], from: usize, r: Row)
-    requires { (from + 15 ≤ length w.old) × (from < 1000) }
-    ensures { w.new ≡ paste w.old from r.at 15 }
+// Task i's 15 numbers are written.
+fn put_row_at(w: &mut [u32; 122], i: usize, r: [u32; 15])
+    requires { i < 8 }
+    ensures { w.new ≡ paste w.old (15 * i) r 15 }
 {
-    let mut i: usize = 0;
-    while i < 15 {
-        w[from + i] = r.at[i];
-        i += 1;
-    }
+    let at = 15 * i;
+    w[at..at + 15].copy_from_slice(&r);
 }
 
-// The numbers of the eight tasks.
-fn write_tasks(w: &mut [u32], st: State)
-    requires { length w.old ≡ 122 }
-    ensures { w.new ≡ rows st.tasks ++ drop 120 w.old }
+// m and u are written.
+fn put_ends(w: &mut [u32; 122], m: u32, u: u32)
+    ensures { w.new ≡ set (set w.old 120 m) 121 u }
 {
-    let mut i: usize = 0;
-    while i < 8 {
-        let k = st.tasks[i];
-        put_row_at(w, 15 * i, row_of(k));
-        i += 1;
-    }
+    w[120] = m;
+    w[121] = u;
 }
 
 // The numbers of a state.
-pub fn write_state(w: &mut [u32], st: State)
-    requires { length w.old ≡ 122 }
+pub fn write_state(w: &mut [u32; 122], st: State)
     ensures { w.new ≡ encode st }
 {
-    write_tasks(w, st);
-    w[120] = st.m;
-    w[121] = st.u;
+    for (i, k) in st.tasks.iter().enumerate() {
+        put_row_at(w, i, row_of(*k));
+    }
+    put_ends(w, st.m, st.u);
 }
 
-fn job_by(w: &[u32]) -> Job
-    requires { 15 ≤ length w.now }
+fn job_by(w: &[u32; 15]) -> Job
     ensures { result ≡ job_by w.now }
 {
     Job {
@@ -191,8 +150,7 @@ fn job_by(w: &[u32]) -> Job
     }
 }
 
-fn path_by(w: &[u32]) -> Path
-    requires { 15 ≤ length w.now }
+fn path_by(w: &[u32; 15]) -> Path
     ensures { result ≡ path_by w.now }
 {
     Path {
@@ -202,8 +160,8 @@ fn path_by(w: &[u32]) -> Path
     }
 }
 
-fn links_by(w: &[u32], i: usize) -> Links
-    requires { (15 ≤ length w.now) × (i < 14) }
+fn links_by(w: &[u32; 15], i: usize) -> Links
+    requires { i < 14 }
     ensures { result ≡ links_by w.now i }
 {
     Links {
@@ -225,8 +183,7 @@ pub fn goal_by(g: u32) -> Goal
 }
 
 #[tactic(auto, unfolding(crate::specs::Code::put_by, machine::specs::Choice::if_b))]
-fn put_by(w: &[u32], k: u32) -> PutStage
-    requires { 15 ≤ length w.now }
+fn put_by(w: &[u32; 15], k: u32) -> PutStage
     ensures { result ≡ put_by w.now k }
 {
     let a = links_by(w, 7);
@@ -239,8 +196,7 @@ fn put_by(w: &[u32], k: u32) -> PutStage
 }
 
 #[tactic(auto, unfolding(crate::specs::Code::take_by, machine::specs::Choice::if_b))]
-fn take_by(w: &[u32], k: u32) -> TakeStage
-    requires { 15 ≤ length w.now }
+fn take_by(w: &[u32; 15], k: u32) -> TakeStage
     ensures { result ≡ take_by w.now k }
 {
     let a = links_by(w, 7);
@@ -257,8 +213,7 @@ fn take_by(w: &[u32], k: u32) -> TakeStage
 }
 
 #[tactic(auto, unfolding(crate::specs::Code::settle_by, machine::specs::Choice::if_b))]
-fn settle_by(w: &[u32], k: u32) -> SettleStage
-    requires { 15 ≤ length w.now }
+fn settle_by(w: &[u32; 15], k: u32) -> SettleStage
     ensures { result ≡ settle_by w.now k }
 {
     let a = links_by(w, 7);
@@ -275,8 +230,7 @@ fn settle_by(w: &[u32], k: u32) -> SettleStage
 }
 
 #[tactic(auto, unfolding(crate::specs::Code::phase_by, machine::specs::Choice::if_b))]
-fn phase_by(w: &[u32], f: u32) -> Phase
-    requires { 15 ≤ length w.now }
+fn phase_by(w: &[u32; 15], f: u32) -> Phase
     ensures { result ≡ phase_by w.now f }
 {
     let k = w[3];
@@ -289,129 +243,56 @@ fn phase_by(w: &[u32], f: u32) -> Phase
     }
 }
 
-// What the first 15 numbers read as, whether they are a task's or not.
+// What 15 numbers read as, whether they are a task's or not.
 #[tactic(auto, unfolding(crate::specs::Code::task_by, machine::specs::Choice::if_b))]
-fn task_by(w: &[u32]) -> Task
-    requires { 15 ≤ length w.now }
+fn task_by(w: &[u32; 15]) -> Task
     ensures { result ≡ task_by w.now }
 {
-    let f = w[0];
-    if f == 0 {
-        return Task::idle();
-    }
-    Task {
-        work: Work::Busy(job_by(w), phase_by(w, f)),
+    match w[0] {
+        0 => Task::idle(),
+        f => Task {
+            work: Work::Busy(job_by(w), phase_by(w, f)),
+        },
     }
 }
 
+// The 15 numbers of task i.
+fn row_at(w: &[u32; 122], i: usize) -> &[u32; 15]
+    requires { i < 8 }
+    ensures { result.now ≡ take 15 (drop (15 * i) w.now) }
+{
+    &w.as_chunks::<15>().0[i]
+}
+
+// The tasks of 122 numbers.
+fn tasks_by(w: &[u32; 122]) -> [Task; 8]
+    ensures { (i : ℕ) → i < 8 → slice_index_or result i idle_task ≡ task_by (take 15 (drop (15 * i) w.now)) }
+{
+    let mut tasks = [Task::idle(); 8];
+    for i in 0..8 {
+        tasks[i] = task_by(row_at(w, i));
+    }
+    tasks
+}
+
 // What 122 numbers read as.
-fn state_by(w: &[u32]) -> State
-    requires { length w.now ≡ 122 }
+fn state_by(w: &[u32; 122]) -> State
     ensures { result ≡ state_by w.now }
 {
-    let tasks = [
-        task_by(w),
-        task_by(&w[15..]),
-        task_by(&w[30..]),
-        task_by(&w[45..]),
-        task_by(&w[60..]),
-        task_by(&w[75..]),
-        task_by(&w[90..]),
-        task_by(&w[105..]),
-    ];
     State {
-        tasks: tasks,
+        tasks: tasks_by(w),
         m: w[120],
         u: w[121],
     }
 }
 
-fn no_state() -> GotState
-    ensures { result ≡ no_state }
-{
-    GotState {
-        fine: false,
-        state: fresh_state(),
-    }
-}
-
-// Whether all places from one on are 0.
+// Whether all places from one on are 0. A fold asks all of them without a branch, which is faster than `all`.
 #[tactic(auto, unfolding(crate::specs::Own::clear_from))]
-fn clear_1(w: &[u32]) -> bool
-    requires { 15 ≤ length w.now }
-    ensures { result ≡ clear_from 1 14 w.now }
+fn clear_from<const FROM: usize>(w: &[u32; 15]) -> bool
+    requires { FROM ≤ 15 }
+    ensures { result ≡ clear_from FROM w.now }
 {
-    (0 == w[1])
-        & (0 == w[2])
-        & (0 == w[3])
-        & (0 == w[4])
-        & (0 == w[5])
-        & (0 == w[6])
-        & (0 == w[7])
-        & (0 == w[8])
-        & (0 == w[9])
-        & (0 == w[10])
-        & (0 == w[11])
-        & (0 == w[12])
-        & (0 == w[13])
-        & (0 == w[14])
-}
-
-#[tactic(auto, unfolding(crate::specs::Own::clear_from))]
-fn clear_4(w: &[u32]) -> bool
-    requires { 15 ≤ length w.now }
-    ensures { result ≡ clear_from 4 11 w.now }
-{
-    (0 == w[4])
-        & (0 == w[5])
-        & (0 == w[6])
-        & (0 == w[7])
-        & (0 == w[8])
-        & (0 == w[9])
-        & (0 == w[10])
-        & (0 == w[11])
-        & (0 == w[12])
-        & (0 == w[13])
-        & (0 == w[14])
-}
-
-#[tactic(auto, unfolding(crate::specs::Own::clear_from))]
-fn clear_7(w: &[u32]) -> bool
-    requires { 15 ≤ length w.now }
-    ensures { result ≡ clear_from 7 8 w.now }
-{
-    (0 == w[7])
-        & (0 == w[8])
-        & (0 == w[9])
-        & (0 == w[10])
-        & (0 == w[11])
-        & (0 == w[12])
-        & (0 == w[13])
-        & (0 == w[14])
-}
-
-#[tactic(auto, unfolding(crate::specs::Own::clear_from))]
-fn clear_9(w: &[u32]) -> bool
-    requires { 15 ≤ length w.now }
-    ensures { result ≡ clear_from 9 6 w.now }
-{
-    (0 == w[9]) & (0 == w[10]) & (0 == w[11]) & (0 == w[12]) & (0 == w[13]) & (0 == w[14])
-}
-
-#[tactic(auto, unfolding(crate::specs::Own::clear_from))]
-fn clear_11(w: &[u32]) -> bool
-    requires { 15 ≤ length w.now }
-    ensures { result ≡ clear_from 11 4 w.now }
-{
-    (0 == w[11]) & (0 == w[12]) & (0 == w[13]) & (0 == w[14])
-}
-
-#[tactic(auto, unfolding(crate::specs::Own::clear_from))]
-fn clear_13(w: &[u32]) -> bool
-    requires { 15 ≤ length w.now }
-    ensures { result ≡ clear_from 13 2 w.now }
-{
-    (0 == w[13]) & (0 == w[14])
+    w[FROM..].iter().fold(true, |clear, x| clear & (*x == 0))
 }
 
 // Whether this is a goal's number.
@@ -422,58 +303,47 @@ fn own_goal(k: u32) -> bool
     goal_number(goal_by(k)) == k
 }
 
-// With k records read of two: whether the places behind their links are 0.
-#[tactic(auto, unfolding(crate::specs::Own::own_two, machine::specs::Choice::if_b))]
-fn own_two(w: &[u32], k: u32) -> bool
-    requires { 15 ≤ length w.now }
-    ensures { result ≡ own_two k w.now }
+// With k records read, four at most: whether the places behind their links are 0.
+#[tactic(auto, unfolding(crate::specs::Own::own_noted, machine::specs::Choice::if_b))]
+fn own_noted(w: &[u32; 15], k: u32) -> bool
+    ensures { result ≡ own_noted k w.now }
 {
     match k {
-        0 => clear_7(w),
-        1 => clear_9(w),
-        2 => clear_11(w),
-        _ => false,
-    }
-}
-
-// The same of four.
-#[tactic(auto, unfolding(crate::specs::Own::own_four, machine::specs::Choice::if_b))]
-fn own_four(w: &[u32], k: u32) -> bool
-    requires { 15 ≤ length w.now }
-    ensures { result ≡ own_four k w.now }
-{
-    match k {
-        0 => clear_7(w),
-        1 => clear_9(w),
-        2 => clear_11(w),
-        3 => clear_13(w),
+        0 => clear_from::<7>(w),
+        1 => clear_from::<9>(w),
+        2 => clear_from::<11>(w),
+        3 => clear_from::<13>(w),
         _ => k == 4,
     }
 }
 
-// Whether the numbers of a task fit its phase f and its goal or count k.
+// Whether the numbers of a task fit its phase f and its goal or count k. A put-in reads two records, the others four.
 #[tactic(auto, unfolding(crate::specs::Own::own_by, machine::specs::Choice::if_b))]
-fn own_by(w: &[u32], f: u32, k: u32) -> bool
-    requires { 15 ≤ length w.now }
+fn own_by(w: &[u32; 15], f: u32, k: u32) -> bool
     ensures { result ≡ own_by f k w.now }
 {
     match f {
-        0 => clear_1(w),
-        1 => own_goal(k) & clear_4(w),
-        2 => own_goal(k) & clear_7(w),
-        3 => own_two(w, k),
-        4 => own_four(w, k),
-        5 => own_four(w, k),
+        0 => clear_from::<1>(w),
+        1 => own_goal(k) & clear_from::<4>(w),
+        2 => own_goal(k) & clear_from::<7>(w),
+        3 => k <= 2 && own_noted(w, k),
+        4 | 5 => own_noted(w, k),
         _ => false,
     }
 }
 
-// Whether the first 15 numbers are those of the task that they read as.
-fn own_row(w: &[u32]) -> bool
-    requires { 15 ≤ length w.now }
+// Whether 15 numbers are those of the task that they read as.
+fn own_row(w: &[u32; 15]) -> bool
     ensures { result ≡ own_row w.now }
 {
     own_by(w, w[0], w[3])
+}
+
+// Whether all rows are their tasks' own.
+fn own_rows(rows: &[[u32; 15]]) -> bool
+    ensures { result ≡ list_all own_row rows.now }
+{
+    rows.iter().all(|r| own_row(r))
 }
 
 // Whether the numbers are a state.
@@ -483,110 +353,72 @@ pub fn is_state(w: &[u32]) -> bool
     if w.len() != 122 {
         return false;
     }
-    let mut i: usize = 0;
-    while i < 8 {
-        if !own_row(&w[15 * i..]) {
-            return false;
-        }
-        i += 1;
-    }
-    true
+    own_rows(w.as_chunks::<15>().0)
 }
 
 // The state of a row of numbers, if it is one.
-pub fn read_state(w: &[u32]) -> GotState
+pub fn read_state(w: &[u32]) -> Option<State>
     ensures { result ≡ decode w.now }
 {
-    if !is_state(w) {
-        return no_state();
-    }
-    GotState {
-        fine: true,
-        state: state_by(w),
+    if is_state(w) {
+        Some(state_by(w.as_array()?))
+    } else {
+        None
     }
 }
 
 // Task i of a state.
-#[tactic(auto, using(crate::proofs::Own::part_task))]
-pub fn task_at(w: &[u32], i: usize) -> Task
-    requires { (length w.now ≡ 122) × (i < 8) }
+#[tactic(auto, using(crate::proofs::Own::task_part))]
+pub fn task_at(w: &[u32; 122], i: usize) -> Task
+    requires { i < 8 }
     ensures { result ≡ task_at (state_by w.now) i }
 {
-    task_by(&w[15 * i..])
+    task_by(row_at(w, i))
 }
 
-// Whether the task of the first 15 numbers settles.
+// Whether the task of 15 numbers settles.
 #[tactic(auto, unfolding(crate::specs::Code::task_by, crate::specs::Code::phase_by, machine::specs::Choice::if_b))]
-fn settles_by(w: &[u32]) -> bool
-    requires { 15 ≤ length w.now }
+fn settles_by(w: &[u32; 15]) -> bool
     ensures { result ≡ work_settles (task_by w.now).work }
 {
-    let f = w[0];
-    let k = w[3];
-    match f {
-        0 => false,
-        1 => goal_by(k).settles(),
-        2 => goal_by(k).settles(),
-        3 => false,
-        4 => false,
+    match w[0] {
+        1 | 2 => goal_by(w[3]).settles(),
+        0 | 3 | 4 => false,
         _ => true,
     }
 }
 
 // How many tasks of a state settle.
-fn count_settling_by(w: &[u32]) -> u32
-    requires { length w.now ≡ 122 }
+fn count_settling_by(w: &[u32; 122]) -> u32
     ensures { (result ≡ settling (state_by w.now).tasks 8) × (result ≤ 8) }
 {
-    let mut n: u32 = 0;
-    let mut i: usize = 0;
-    while i < 8 {
-        n += one_if(settles_by(&w[15 * i..]));
-        i += 1;
-    }
-    n
+    let (rows, _) = w.as_chunks::<15>();
+    rows.iter().filter(|r| settles_by(r)).count() as u32
 }
 
 // Whether m is in range and c is at most m. At most eight tasks settle: they are counted only where it matters.
-fn is_sound_with(w: &[u32], m: u32, u: u32) -> bool
-    requires { (length w.now ≡ 122) × (m ≡ get_or w.now 120 0) × (u ≡ get_or w.now 121 0) }
+pub fn is_sound_by(w: &[u32; 122]) -> bool
     ensures { result ≡ sound (state_by w.now) }
 {
-    let c = u as u64;
-    if c + 8 <= m as u64 {
+    let m = w[120];
+    let c = u64::from(w[121]);
+    if c + 8 <= u64::from(m) {
         return m <= 1000000;
     }
-    let all = c + count_settling_by(w) as u64;
-    (m <= 1000000) & (all <= m as u64)
-}
-
-pub fn is_sound_by(w: &[u32]) -> bool
-    requires { length w.now ≡ 122 }
-    ensures { result ≡ sound (state_by w.now) }
-{
-    is_sound_with(w, w[120], w[121])
-}
-
-// m and u are written.
-fn put_ends(w: &mut [u32], m: u32, u: u32)
-    requires { length w.old ≡ 122 }
-    ensures { w.new ≡ set (set w.old 120 m) 121 u }
-{
-    w[120] = m;
-    w[121] = u;
+    let all = c + u64::from(count_settling_by(w));
+    (m <= 1000000) & (all <= u64::from(m))
 }
 
 // A task is stored in a state, with m and u.
-pub fn store_task(w: &mut [u32], i: usize, k: Task, m: u32, u: u32)
-    requires { (length w.old ≡ 122) × (is_state w.old ≡ true) × (i < 8) }
+pub fn store_task(w: &mut [u32; 122], i: usize, k: Task, m: u32, u: u32)
+    requires { (is_state w.old ≡ true) × (i < 8) }
     ensures { (state_by w.new ≡ storing (state_by w.old) i k m u) × (is_state w.new ≡ true) }
 {
-    put_row_at(w, 15 * i, row_of(k));
+    put_row_at(w, i, row_of(k));
     put_ends(w, m, u);
 }
 
-fn walker_by(w: &[u32]) -> Walker
-    requires { 15 ≤ length w.now }
+fn walker_by(w: &[u32; 15]) -> Walker
     ensures { result ≡ walker_by w.now }
 {
     let q = path_by(w);
@@ -600,25 +432,20 @@ fn walker_by(w: &[u32]) -> Walker
 }
 
 // Task i of a state, as a walker.
-pub fn walker_at(w: &[u32], i: usize) -> Walker
-    requires { (length w.now ≡ 122) × (i < 8) }
+#[tactic(auto, using(crate::proofs::Own::walker_part))]
+pub fn walker_at(w: &[u32; 122], i: usize) -> Walker
+    requires { i < 8 }
     ensures { result ≡ walker_by (drop (15 * i) w.now) }
 {
-    walker_by(&w[15 * i..])
+    walker_by(row_at(w, i))
 }
 
 // The first seven numbers of task i are written.
 #[tactic(auto, unfolding(crate::specs::Walking::put_first))]
-pub fn put_first(w: &mut [u32], i: usize, f: u32, j: Job, k: u32, q: Path)
-    requires { (length w.old ≡ 122) × (i < 8) }
+pub fn put_first(w: &mut [u32; 122], i: usize, f: u32, j: Job, k: u32, q: Path)
+    requires { i < 8 }
     ensures { w.new ≡ put_first w.old (15 * i) f j k q }
 {
     let b = 15 * i;
-    w[b] = f;
-    w[b + 1] = j.number;
-    w[b + 2] = j.price;
-    w[b + 3] = k;
-    w[b + 4] = q.grand;
-    w[b + 5] = q.parent;
-    w[b + 6] = q.here;
+    w[b..b + 7].copy_from_slice(&[f, j.number, j.price, k, q.grand, q.parent, q.here]);
 }

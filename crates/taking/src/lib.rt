@@ -2,16 +2,12 @@
 #![tactic(auto)]
 
 ghost use Rattle.std.specs.Prelude.{◌≡◌, [], ◌∷◌, ◌+◌, ◌-◌, ◌*◌, ◌≤◌, ◌<◌};
-ghost use Rattle.machine.specs.Contract.{Sized, acted, played};
-ghost use Rattle.machine.specs.Table.{view, puts};
+ghost use Rattle.fields.specs.Writes.{read, Writes, Does};
 ghost use Rattle.machine.specs.TakeOut.{take_apart, take_leaf, take_grounds, take_test, take_writes, take_room, take_commit, take_step};
 ghost use Rattle.walk.specs.Inside.{Inside};
 ghost use Rattle.walk.specs.Stopped.{or_calm};
 
-use fields::{
-    is_leaf, is_linked, is_still, lead_to, load, other_link, put_fill, put_lead, put_off,
-    well_formed,
-};
+use fields::{SlotsMut, is_leaf, is_linked, is_still, lead_to, other_link, well_formed};
 use room::free_slots;
 use terms::{Answer, Job, Links, Outcome, Path, Phase, Rec, TakeStage, Turn};
 use walk::{busy_in, calm_turn, may_change, or_calm, read_child, read_leading};
@@ -69,73 +65,62 @@ fn take_test(noted: Family<Links>, now: Family<Rec>) -> bool
 
 // The five writes of a take-out: s is the sibling's record, x the slot of its copy.
 #[tactic(auto, unfolding(machine::specs::Table::puts))]
-fn take_writes(t: &mut [u32], n: u32, q: Path, left: bool, s: Rec, sibling: u32, x: u32)
-    requires { Sized t.old n × (x < n) × (sibling < n) × Inside n q }
-    ensures { t.new ≡ puts t.old (take_writes q left s sibling x) }
+fn take_writes(t: &mut SlotsMut, q: Path, left: bool, s: Rec, sibling: u32, x: u32)
+    requires { (x < t.old.n) × (sibling < t.old.n) × Inside t.old.n q }
+    ensures { Writes t.old t.new (take_writes q left s sibling x) }
 {
-    put_fill(t, n, x, s);
-    put_off(t, n, q.parent);
-    put_off(t, n, q.here);
-    put_off(t, n, sibling);
-    put_lead(t, n, q.grand, left, x);
+    t.fill(x, s);
+    t.take_off(q.parent);
+    t.take_off(q.here);
+    t.take_off(sibling);
+    t.lead(q.grand, left, x);
 }
 
 // Room, and the writes.
 #[tactic(auto, unfolding(machine::specs::Contract::acted, machine::specs::Contract::played, machine::specs::TakeOut::take_room, machine::specs::Choice::if_b, machine::specs::Table::puts, machine::specs::Table::slot1))]
-fn take_room(
-    t: &mut [u32],
-    n: u32,
-    q: Path,
-    left: bool,
-    s: Rec,
-    sibling: u32,
-) -> Result<Outcome, Turn>
-    requires { Sized t.old n × (sibling < n) × Inside n q }
-    ensures { acted t.new (or_calm result) ≡ played t.old (take_room (view n t.old) n q left s sibling) }
+fn take_room(t: &mut SlotsMut, q: Path, left: bool, s: Rec, sibling: u32) -> Result<Outcome, Turn>
+    requires { (sibling < t.old.n) × Inside t.old.n q }
+    ensures { Does t.old t.new (or_calm result) (take_room (read t.old) t.old.n q left s sibling) }
 {
-    let [x] = free_slots::<1>(t, n).ok_or(Turn::Done(Answer::NoRoom))?;
-    take_writes(t, n, q, left, s, sibling, x);
+    let [x] = free_slots::<1>(&t.read()).ok_or(Turn::Done(Answer::NoRoom))?;
+    take_writes(t, q, left, s, sibling, x);
     Ok(calm_turn(Turn::Done(Answer::TakenOut)))
 }
 
 // The commit of a take-out.
 #[tactic(auto, unfolding(machine::specs::Contract::acted, machine::specs::Contract::played, machine::specs::TakeOut::take_commit, machine::specs::Choice::if_b, machine::specs::Table::puts))]
-fn take_commit(
-    t: &mut [u32],
-    n: u32,
-    j: Job,
-    q: Path,
-    noted: Family<Links>,
-) -> Result<Outcome, Turn>
-    requires { Sized t.old n }
-    ensures { acted t.new (or_calm result) ≡ played t.old (take_commit (view n t.old) n j q noted.grand noted.parent noted.left noted.right) }
+fn take_commit(t: &mut SlotsMut, j: Job, q: Path, noted: Family<Links>) -> Result<Outcome, Turn>
+    ensures { Does t.old t.new (or_calm result) (take_commit (read t.old) t.old.n j q noted.grand noted.parent noted.left noted.right) }
 {
     let now = Family {
-        grand: load(t, n, q.grand),
-        parent: load(t, n, q.parent),
-        left: load(t, n, noted.parent.left),
-        right: load(t, n, noted.parent.right),
+        grand: t.at(q.grand),
+        parent: t.at(q.parent),
+        left: t.at(noted.parent.left),
+        right: t.at(noted.parent.right),
     };
     let s = TakeStage::TakeCommit(noted.grand, noted.parent, noted.left, noted.right);
     let k = busy_in(j, Phase::TakingOut(q, s));
-    may_change(k, take_grounds(n, j, q, noted, now), take_test(noted, now))?;
+    may_change(
+        k,
+        take_grounds(t.n, j, q, noted, now),
+        take_test(noted, now),
+    )?;
     let sibling = other_link(noted.parent, q.here);
-    let copied = load(t, n, sibling);
-    take_room(t, n, q, noted.grand.left == q.parent, copied, sibling)
+    let copied = t.at(sibling);
+    take_room(t, q, noted.grand.left == q.parent, copied, sibling)
 }
 
 // A step of a take-out that has walked: the four readings, then the commit.
 #[tactic(auto, unfolding(machine::specs::Contract::acted, machine::specs::Contract::played, machine::specs::TakeOut::take_step, machine::specs::TakeOut::read_take_grand, machine::specs::TakeOut::read_take_parent, machine::specs::TakeOut::read_take_left, machine::specs::TakeOut::read_take_right, machine::specs::Choice::if_b, machine::specs::Table::puts))]
-pub fn take_step(t: &mut [u32], n: u32, j: Job, q: Path, s: TakeStage) -> Outcome
-    requires { Sized t.old n }
-    ensures { acted t.new result ≡ played t.old (take_step (view n t.old) n j q s) }
+pub fn take_step(t: &mut SlotsMut, j: Job, q: Path, s: TakeStage) -> Outcome
+    ensures { Does t.old t.new result (take_step (read t.old) t.old.n j q s) }
 {
     let k = busy_in(j, Phase::TakingOut(q, s));
     match s {
-        TakeStage::TakeGrand => read_leading(t, n, k, q.grand, q.parent),
-        TakeStage::TakeParent(_) => read_leading(t, n, k, q.parent, q.here),
-        TakeStage::TakeLeft(_, b) => read_child(t, n, k, b.left),
-        TakeStage::TakeRight(_, b, _) => read_child(t, n, k, b.right),
+        TakeStage::TakeGrand => read_leading(&t.read(), k, q.grand, q.parent),
+        TakeStage::TakeParent(_) => read_leading(&t.read(), k, q.parent, q.here),
+        TakeStage::TakeLeft(_, b) => read_child(&t.read(), k, b.left),
+        TakeStage::TakeRight(_, b, _) => read_child(&t.read(), k, b.right),
         TakeStage::TakeCommit(grand, parent, left, right) => {
             let noted = Family {
                 grand,
@@ -143,7 +128,7 @@ pub fn take_step(t: &mut [u32], n: u32, j: Job, q: Path, s: TakeStage) -> Outcom
                 left,
                 right,
             };
-            or_calm(take_commit(t, n, j, q, noted))
+            or_calm(take_commit(t, j, q, noted))
         }
     }
 }

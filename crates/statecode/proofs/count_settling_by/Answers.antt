@@ -1,15 +1,16 @@
-use Rattle.std.proofs.Common.{arith, sym}
-use Rattle.machine.proofs.Count.{none-settling, one-more_settling}
-use Rattle.statecode.proofs.Own.{part_task}
+use Rattle.std.proofs.Common.{◌≡◌, ◌/◌, ◌∙◌, length, ap, rules}
+use Rattle.std.specs.List.{count_by}
+use Rattle.std.specs.Simd.{first_chunks}
+use Rattle.terms.specs.Task.{work_settles}
+use Rattle.machine.specs.State.{settling}
+use Rattle.statecode.specs.Code.{task_by, state_by}
+use Rattle.statecode.proofs.Own.{rows_settling, eight-settling}
 use Rattle.statecode.proofs.count_settling_by.Goals as goal
 
-pub loop-i-init : goal.loop-i-init
-loop-i-init c = (omega arith, omega arith, c.requires, none-settling _)
-
-pub loop-i-preserved : goal.loop-i-preserved
-loop-i-preserved c = (
-  omega arith,
-  omega arith,
-  c.loop-i.invariant.2,
-  rw (c.one_if-n.ensures.0, c.settles_by.ensures, part_task c.args.w.now c.loop-i.i c.loop-i-test.true, c.loop-i.invariant.3) (sym (one-more_settling _ _)),
-)
+pub returns : goal.returns
+returns c =
+    let e : length c.args.w.now / 15 ≡ 8 = ap (λ n. n / 15) c.told-w in
+    let a : c.count.result ≡ count_by (λ r. work_settles (task_by r).work) c.as_chunks.result.0.now = search rules in
+    let b : c.count.result ≡ settling (state_by c.args.w.now).tasks 8 =
+    a ∙ ap (count_by (λ r. work_settles (task_by r).work)) (c.as_chunks.ensures.front ∙ ap (λ n. first_chunks 15 n c.args.w.now) e) ∙ rows_settling c.args.w.now in
+    (b, rw b (eight-settling (state_by c.args.w.now).tasks 8))

@@ -1,20 +1,14 @@
-use Rattle.std.proofs.Common.{◌∙◌, sym, ap, not, arith}
-use Rattle.statecode.proofs.Own.{other_none, own-all, own-none, part_stops, part_goes}
+use Rattle.std.proofs.Common.{◌≡◌, ◌/◌, length, ap, ◌∙◌}
+use Rattle.std.specs.List.{list_all}
+use Rattle.std.specs.Simd.{first_chunks}
+use Rattle.statecode.specs.Own.{own_row}
+use Rattle.statecode.proofs.Own.{other_none, all_own}
 use Rattle.statecode.proofs.is_state.Goals as goal
 
 pub returns-then-w-ne122 : goal.returns-then-w-ne122
 returns-then-w-ne122 c = other_none c.args.w.now c.if-w-ne122.true
 
-pub loop-i-init : goal.loop-i-init
-loop-i-init c = (omega arith, c.if-w-ne122.false, own-all c.args.w.now c.if-w-ne122.false)
-
-pub returns-then-not-own_row : goal.returns-then-not-own_row
-returns-then-not-own_row c =
-    part_stops c.args.w.now c.loop-i.i c.loop-i-test.true c.loop-i.invariant.2 _ c.own_row.ensures (ap not c.if-not-own_row.true)
-
-pub loop-i-preserved : goal.loop-i-preserved
-loop-i-preserved c =
-    (omega arith, c.loop-i.invariant.1, part_goes c.args.w.now c.loop-i.i c.loop-i-test.true c.loop-i.invariant.2 _ c.own_row.ensures (ap not c.if-not-own_row.false))
-
 pub returns : goal.returns
-returns c = sym (c.loop-i.invariant.2 ∙ own-none c.args.w.now c.loop-i.i (omega arith))
+returns c =
+    let e : length c.args.w.now / 15 ≡ 8 = ap (λ n. n / 15) c.if-w-ne122.false in
+    c.own_rows.ensures ∙ ap (list_all own_row) (c.as_chunks.ensures.front ∙ ap (λ n. first_chunks 15 n c.args.w.now) e) ∙ all_own c.args.w.now c.if-w-ne122.false
