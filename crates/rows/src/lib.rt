@@ -4,14 +4,13 @@
 ghost use Rattle.std.specs.Prelude.{◌≡◌, ◌+◌, ◌-◌, ◌*◌, ◌≤◌, ◌<◌, eqb, slice_index};
 ghost use Rattle.terms.specs.Task.{busy};
 ghost use Rattle.terms.specs.declared.Phase.TheVariants.{Settling};
-ghost use Rattle.machine.specs.Contract.{Sized};
-ghost use Rattle.machine.specs.Table.{puts};
+ghost use Rattle.fields.specs.Writes.{seen, read, Writes, Does};
 ghost use Rattle.machine.specs.Record.{other};
 ghost use Rattle.machine.specs.Rows.{parent_row, level_row, sided, link_at, around_of, promote_writes, rotate_writes, double_x, double_z, double_writes};
 ghost use Rattle.room.specs.Found.{AllBelow};
 ghost use Rattle.walk.specs.Inside.{Inside};
 
-use fields::{other_link, put_fill, put_lead, put_off};
+use fields::{SlotsMut, other_link};
 use putting::inner_of;
 use terms::{Around, Job, LevelRow, Links, ParentRow, Path, Phase, Rec, SettleStage, Task};
 use walk::busy_in;
@@ -125,28 +124,28 @@ fn link_at(side: bool, a: Links) -> u32
 
 // Promote: z's copy with one rank more.
 #[tactic(auto, unfolding(machine::specs::Table::puts))]
-pub fn promote_writes(t: &mut [u32], n: u32, k: Level, z: Rec, i: u32)
-    requires { Sized t.old n × (z.rank < 28) × (i < n) × (k.path.parent < n) × (k.path.grand < n) }
-    ensures { t.new ≡ puts t.old (promote_writes k.path (eqb k.pz.left k.path.parent) k.z z i) }
+pub fn promote_writes(t: &mut SlotsMut, k: Level, z: Rec, i: u32)
+    requires { (z.rank < 28) × (i < t.old.n) × (k.path.parent < t.old.n) × (k.path.grand < t.old.n) }
+    ensures { Writes t.old t.new (promote_writes k.path (eqb k.pz.left k.path.parent) k.z z i) }
 {
-    put_fill(t, n, i, inner_of(z.number, z.rank + 1, k.z.left, k.z.right));
-    put_off(t, n, k.path.parent);
-    put_lead(t, n, k.path.grand, k.pz.left == k.path.parent, i);
+    t.fill(i, inner_of(z.number, z.rank + 1, k.z.left, k.z.right));
+    t.take_off(k.path.parent);
+    t.lead(k.path.grand, k.pz.left == k.path.parent, i);
 }
 
 // Rotate: x on top with rank rx, z below it with rank rz.
 #[tactic(auto, unfolding(machine::specs::Rows::rotate_writes, machine::specs::Choice::if_b, machine::specs::Table::puts))]
-pub fn rotate_writes(t: &mut [u32], n: u32, r: Rotation, rx: u32, rz: u32, slots: [u32; 2])
-    requires { Sized t.old n × AllBelow n slots × Inside n r.path }
-    ensures { t.new ≡ puts t.old (rotate_writes r.path r.around r.z r.x rx rz (slice_index slots 0) (slice_index slots 1)) }
+pub fn rotate_writes(t: &mut SlotsMut, r: Rotation, rx: u32, rz: u32, slots: [u32; 2])
+    requires { AllBelow t.old.n slots × Inside t.old.n r.path }
+    ensures { Writes t.old t.new (rotate_writes r.path r.around r.z r.x rx rz (slice_index slots 0) (slice_index slots 1)) }
 {
     let [i, k] = slots;
     let o = r.around;
-    put_fill(t, n, i, sided_record(o.side, r.x.number, rx, o.w, k));
-    put_fill(t, n, k, sided_record(o.side, r.z.number, rz, o.y, o.s));
-    put_off(t, n, r.path.parent);
-    put_off(t, n, r.path.here);
-    put_lead(t, n, r.path.grand, o.high, i);
+    t.fill(i, sided_record(o.side, r.x.number, rx, o.w, k));
+    t.fill(k, sided_record(o.side, r.z.number, rz, o.y, o.s));
+    t.take_off(r.path.parent);
+    t.take_off(r.path.here);
+    t.lead(r.path.grand, o.high, i);
 }
 
 // The new x and z of a double rotation; d are y's links.
@@ -176,20 +175,20 @@ fn double_z(o: Around, d: Links, z: Rec) -> Rec
 
 // Double rotation: y on top, x and z below it on their sides.
 #[tactic(auto, unfolding(machine::specs::Rows::double_writes, machine::specs::Choice::if_b, machine::specs::Table::puts))]
-pub fn double_writes(t: &mut [u32], n: u32, r: Rotation, y: Rec, d: Links, slots: [u32; 3])
-    requires { Sized t.old n × (y.rank < 4294967295) × AllBelow n slots × Inside n r.path × (r.around.y < n) }
-    ensures { t.new ≡ puts t.old (double_writes r.path r.around d r.z r.x y (slice_index slots 0) (slice_index slots 1) (slice_index slots 2)) }
+pub fn double_writes(t: &mut SlotsMut, r: Rotation, y: Rec, d: Links, slots: [u32; 3])
+    requires { (y.rank < 4294967295) × AllBelow t.old.n slots × Inside t.old.n r.path × (r.around.y < t.old.n) }
+    ensures { Writes t.old t.new (double_writes r.path r.around d r.z r.x y (slice_index slots 0) (slice_index slots 1) (slice_index slots 2)) }
 {
     let [i, k, l] = slots;
     let o = r.around;
     let near = double_x(o, d, r.x);
     let far = double_z(o, d, r.z);
     let (left, right) = if o.side { (near, far) } else { (far, near) };
-    put_fill(t, n, i, inner_of(y.number, y.rank + 1, k, l));
-    put_fill(t, n, k, left);
-    put_fill(t, n, l, right);
-    put_off(t, n, r.path.parent);
-    put_off(t, n, r.path.here);
-    put_off(t, n, o.y);
-    put_lead(t, n, r.path.grand, o.high, i);
+    t.fill(i, inner_of(y.number, y.rank + 1, k, l));
+    t.fill(k, left);
+    t.fill(l, right);
+    t.take_off(r.path.parent);
+    t.take_off(r.path.here);
+    t.take_off(o.y);
+    t.lead(r.path.grand, o.high, i);
 }

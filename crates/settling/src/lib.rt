@@ -4,15 +4,14 @@
 ghost use Rattle.std.specs.Prelude.{◌≡◌, ◌+◌, ◌-◌, ◌*◌, ◌≤◌, ◌<◌, eqb, IfOk};
 ghost use Rattle.terms.specs.declared.LevelRow.TheVariants.{DoubleRotation};
 ghost use Rattle.machine.specs.Commit.{Did};
-ghost use Rattle.machine.specs.Contract.{Sized, acted, played};
+ghost use Rattle.fields.specs.Writes.{seen, read, Writes, Does};
 ghost use Rattle.machine.specs.Rows.{around_of};
-ghost use Rattle.machine.specs.Table.{view};
 ghost use Rattle.machine.specs.Settling.{grounds_two, grounds_three, grounds_four, test_two, test_three, test_four, commit_two, commit_three, commit_four, promote_do, rotate_do, rotate_two_do, double_do, rotate_by, double_by, promote_by};
 ghost use Rattle.settling.specs.Again.{settled_on};
 ghost use Rattle.walk.specs.Inside.{Inside};
 ghost use Rattle.walk.specs.Stopped.{or_stopped, or_calm};
 
-use fields::{is_level, is_linked, is_still, lead_to, load, well_formed};
+use fields::{Slots, SlotsMut, is_level, is_linked, is_still, lead_to, well_formed};
 use room::free_slots;
 use rows::{Level, Rotation, double_writes, promote_writes, rotate_writes};
 use terms::{
@@ -71,49 +70,38 @@ fn test_four(k: Level, c: Links, d: Links, pz: Rec, z: Rec, x: Rec, y: Rec) -> b
 
 // What stops a commit with two, three and four records read: pz, z, x and y.
 #[tactic(auto, unfolding(machine::specs::Settling::commit_two))]
-pub fn commit_two(t: &[u32], n: u32, k: Level, z: Rec, x: Rec) -> Result<(), Turn>
-    requires { Sized t.now n }
-    ensures { ((e : Did) → commit_two (view n t.now) n k.job k.path k.pz k.z z x e ≡ or_stopped e result) × IfOk result (λ u. k.path.grand < n) }
+pub fn commit_two(t: &Slots, k: Level, z: Rec, x: Rec) -> Result<(), Turn>
+    ensures { ((e : Did) → commit_two (seen t.now) t.now.n k.job k.path k.pz k.z z x e ≡ or_stopped e result) × IfOk result (λ u. k.path.grand < t.now.n) }
 {
-    let pz = load(t, n, k.path.grand);
+    let pz = t.at(k.path.grand);
     let task = k.at(SettleStage::SettleChoose(k.pz, k.z));
-    may_change(task, grounds_two(n, k, pz, z, x), test_two(k, pz, z))
+    may_change(task, grounds_two(t.n, k, pz, z, x), test_two(k, pz, z))
 }
 
 #[tactic(auto, unfolding(machine::specs::Settling::commit_three))]
-pub fn commit_three(t: &[u32], n: u32, k: Level, c: Links, z: Rec, x: Rec) -> Result<(), Turn>
-    requires { Sized t.now n }
-    ensures { ((e : Did) → commit_three (view n t.now) n k.job k.path k.pz k.z c z x e ≡ or_stopped e result) × IfOk result (λ u. k.path.grand < n) }
+pub fn commit_three(t: &Slots, k: Level, c: Links, z: Rec, x: Rec) -> Result<(), Turn>
+    ensures { ((e : Did) → commit_three (seen t.now) t.now.n k.job k.path k.pz k.z c z x e ≡ or_stopped e result) × IfOk result (λ u. k.path.grand < t.now.n) }
 {
-    let pz = load(t, n, k.path.grand);
+    let pz = t.at(k.path.grand);
     let task = k.at(SettleStage::SettleRotate(k.pz, k.z, c));
     may_change(
         task,
-        grounds_three(n, k, pz, z, x),
+        grounds_three(t.n, k, pz, z, x),
         test_three(k, c, pz, z, x),
     )
 }
 
 #[tactic(auto, unfolding(machine::specs::Settling::commit_four))]
-pub fn commit_four(
-    t: &[u32],
-    n: u32,
-    k: Level,
-    c: Links,
-    d: Links,
-    z: Rec,
-    x: Rec,
-) -> Result<(), Turn>
-    requires { Sized t.now n }
-    ensures { ((e : Did) → commit_four (view n t.now) n k.job k.path k.pz k.z c d (around_of k.path k.pz k.z c).y z x e ≡ or_stopped e result) × IfOk result (λ u. k.path.grand < n) }
+pub fn commit_four(t: &Slots, k: Level, c: Links, d: Links, z: Rec, x: Rec) -> Result<(), Turn>
+    ensures { ((e : Did) → commit_four (seen t.now) t.now.n k.job k.path k.pz k.z c d (around_of k.path k.pz k.z c).y z x e ≡ or_stopped e result) × IfOk result (λ u. k.path.grand < t.now.n) }
 {
     let i = k.around(c).y;
-    let pz = load(t, n, k.path.grand);
-    let y = load(t, n, i);
+    let pz = t.at(k.path.grand);
+    let y = t.at(i);
     let task = k.at(SettleStage::SettleDouble(k.pz, k.z, c, d));
     may_change(
         task,
-        grounds_four(n, k, i, pz, z, x, y),
+        grounds_four(t.n, k, i, pz, z, x, y),
         test_four(k, c, d, pz, z, x, y),
     )
 }
@@ -127,90 +115,89 @@ fn settled_on(j: Job) -> Outcome
 
 // Promote.
 #[tactic(auto, unfolding(machine::specs::Contract::acted, machine::specs::Contract::played, machine::specs::Settling::promote_do, machine::specs::Choice::if_b, machine::specs::Table::puts, machine::specs::Table::slot1))]
-fn promote_do(t: &mut [u32], n: u32, k: Level, z: Rec) -> Result<Outcome, Turn>
-    requires { Sized t.old n × (k.path.parent < n) × (k.path.grand < n) }
-    ensures { acted t.new (or_calm result) ≡ played t.old (promote_do (view n t.old) n k.job k.path (eqb k.pz.left k.path.parent) k.z z) }
+fn promote_do(t: &mut SlotsMut, k: Level, z: Rec) -> Result<Outcome, Turn>
+    requires { (k.path.parent < t.old.n) × (k.path.grand < t.old.n) }
+    ensures { Does t.old t.new (or_calm result) (promote_do (read t.old) t.old.n k.job k.path (eqb k.pz.left k.path.parent) k.z z) }
 {
     if 28 <= z.rank {
         return Err(Turn::Hurt);
     }
-    let [i] = free_slots::<1>(t, n).ok_or(Turn::Done(Answer::PutUnsettled))?;
-    promote_writes(t, n, k, z, i);
+    let [i] = free_slots::<1>(&t.read()).ok_or(Turn::Done(Answer::PutUnsettled))?;
+    promote_writes(t, k, z, i);
     Ok(settled_on(k.job))
 }
 
 // Rotate, with the new ranks of x and z.
 #[tactic(auto, unfolding(machine::specs::Contract::acted, machine::specs::Contract::played, machine::specs::Settling::rotate_do, machine::specs::Choice::if_b, machine::specs::Table::puts, machine::specs::Table::slot1, machine::specs::Table::slot2))]
-fn rotate_do(t: &mut [u32], n: u32, r: Rotation, rx: u32, rz: u32) -> Result<Outcome, Turn>
-    requires { Sized t.old n × Inside n r.path }
-    ensures { acted t.new (or_calm result) ≡ played t.old (rotate_do (view n t.old) n r.job r.path r.around r.z r.x rx rz) }
+fn rotate_do(t: &mut SlotsMut, r: Rotation, rx: u32, rz: u32) -> Result<Outcome, Turn>
+    requires { Inside t.old.n r.path }
+    ensures { Does t.old t.new (or_calm result) (rotate_do (read t.old) t.old.n r.job r.path r.around r.z r.x rx rz) }
 {
-    let slots = free_slots(t, n).ok_or(Turn::Done(Answer::PutUnsettled))?;
-    rotate_writes(t, n, r, rx, rz, slots);
+    let slots = free_slots(&t.read()).ok_or(Turn::Done(Answer::PutUnsettled))?;
+    rotate_writes(t, r, rx, rz, slots);
     Ok(settled_on(r.job))
 }
 
 #[tactic(auto, unfolding(machine::specs::Contract::acted, machine::specs::Contract::played, machine::specs::Settling::rotate_two_do, machine::specs::Choice::if_b, machine::specs::Table::puts))]
-fn rotate_two_do(t: &mut [u32], n: u32, r: Rotation) -> Result<Outcome, Turn>
-    requires { Sized t.old n × Inside n r.path }
-    ensures { acted t.new (or_calm result) ≡ played t.old (rotate_two_do (view n t.old) n r.job r.path r.around r.z r.x) }
+fn rotate_two_do(t: &mut SlotsMut, r: Rotation) -> Result<Outcome, Turn>
+    requires { Inside t.old.n r.path }
+    ensures { Does t.old t.new (or_calm result) (rotate_two_do (read t.old) t.old.n r.job r.path r.around r.z r.x) }
 {
     if 28 <= r.x.rank {
         Err(Turn::Hurt)
     } else {
-        rotate_do(t, n, r, r.x.rank + 1, r.z.rank)
+        rotate_do(t, r, r.x.rank + 1, r.z.rank)
     }
 }
 
 // Double rotation; d are y's links.
 #[tactic(auto, unfolding(machine::specs::Contract::acted, machine::specs::Contract::played, machine::specs::Settling::double_do, machine::specs::Choice::if_b, machine::specs::Table::puts, machine::specs::Table::slot1, machine::specs::Table::slot2, machine::specs::Table::slot3))]
-fn double_do(t: &mut [u32], n: u32, r: Rotation, y: Rec, d: Links) -> Result<Outcome, Turn>
-    requires { Sized t.old n × (y.rank < 4294967295) × Inside n r.path × (r.around.y < n) }
-    ensures { acted t.new (or_calm result) ≡ played t.old (double_do (view n t.old) n r.job r.path r.around d r.z r.x y) }
+fn double_do(t: &mut SlotsMut, r: Rotation, y: Rec, d: Links) -> Result<Outcome, Turn>
+    requires { (y.rank < 4294967295) × Inside t.old.n r.path × (r.around.y < t.old.n) }
+    ensures { Does t.old t.new (or_calm result) (double_do (read t.old) t.old.n r.job r.path r.around d r.z r.x y) }
 {
-    let slots = free_slots(t, n).ok_or(Turn::Done(Answer::PutUnsettled))?;
-    double_writes(t, n, r, y, d, slots);
+    let slots = free_slots(&t.read()).ok_or(Turn::Done(Answer::PutUnsettled))?;
+    double_writes(t, r, y, d, slots);
     Ok(settled_on(r.job))
 }
 
 // The change by its row.
 #[tactic(auto, unfolding(machine::specs::Contract::acted, machine::specs::Contract::played, machine::specs::Settling::promote_by, machine::specs::Choice::if_b, machine::specs::Table::puts))]
-pub fn promote_by(t: &mut [u32], n: u32, row: ParentRow, k: Level, z: Rec) -> Result<Outcome, Turn>
-    requires { Sized t.old n × (k.path.parent < n) × (k.path.grand < n) }
-    ensures { acted t.new (or_calm result) ≡ played t.old (promote_by row (view n t.old) n k.job k.path k.pz k.z z) }
+pub fn promote_by(t: &mut SlotsMut, row: ParentRow, k: Level, z: Rec) -> Result<Outcome, Turn>
+    requires { (k.path.parent < t.old.n) × (k.path.grand < t.old.n) }
+    ensures { Does t.old t.new (or_calm result) (promote_by row (read t.old) t.old.n k.job k.path k.pz k.z z) }
 {
     match row {
-        ParentRow::Promote => promote_do(t, n, k, z),
+        ParentRow::Promote => promote_do(t, k, z),
         ParentRow::Outranked | ParentRow::Wider => Err(Turn::Hurt),
     }
 }
 
 #[tactic(auto, unfolding(machine::specs::Contract::acted, machine::specs::Contract::played, machine::specs::Settling::rotate_by, machine::specs::Choice::if_b, machine::specs::Table::puts))]
-pub fn rotate_by(t: &mut [u32], n: u32, row: LevelRow, r: Rotation) -> Result<Outcome, Turn>
-    requires { Sized t.old n × Inside n r.path }
-    ensures { acted t.new (or_calm result) ≡ played t.old (rotate_by row (view n t.old) n r.job r.path r.around r.z r.x) }
+pub fn rotate_by(t: &mut SlotsMut, row: LevelRow, r: Rotation) -> Result<Outcome, Turn>
+    requires { Inside t.old.n r.path }
+    ensures { Does t.old t.new (or_calm result) (rotate_by row (read t.old) t.old.n r.job r.path r.around r.z r.x) }
 {
     match row {
-        LevelRow::RotateOne => rotate_do(t, n, r, r.x.rank, r.z.rank.saturating_sub(1)),
-        LevelRow::RotateTwo => rotate_two_do(t, n, r),
+        LevelRow::RotateOne => rotate_do(t, r, r.x.rank, r.z.rank.saturating_sub(1)),
+        LevelRow::RotateTwo => rotate_two_do(t, r),
         LevelRow::NoRow | LevelRow::DoubleRotation => Err(Turn::Hurt),
     }
 }
 
 #[tactic(auto, unfolding(machine::specs::Contract::acted, machine::specs::Contract::played, machine::specs::Settling::double_by, machine::specs::Settling::rotate_by, machine::specs::Choice::if_b, machine::specs::Table::puts))]
 pub fn double_by(
-    t: &mut [u32],
-    n: u32,
+    t: &mut SlotsMut,
     row: LevelRow,
     r: Rotation,
     y: Rec,
     d: Links,
 ) -> Result<Outcome, Turn>
-    requires { Sized t.old n × (row ≡ DoubleRotation → y.rank < 4294967295) × Inside n r.path × (r.around.y < n) }
-    ensures { acted t.new (or_calm result) ≡ played t.old (double_by row (view n t.old) n r.job r.path r.around d r.z r.x y) }
+    requires { (row ≡ DoubleRotation → y.rank < 4294967295) × Inside t.old.n r.path × (r.around.y < t.old.n) }
+    ensures { Does t.old t.new (or_calm result) (double_by row (read t.old) t.old.n r.job r.path r.around d r.z r.x y) }
 {
     match row {
-        LevelRow::DoubleRotation => double_do(t, n, r, y, d),
-        _ => rotate_by(t, n, row, r),
+        LevelRow::DoubleRotation => double_do(t, r, y, d),
+        _ => rotate_by(t, row, r),
     }
 }

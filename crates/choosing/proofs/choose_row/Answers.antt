@@ -7,6 +7,6 @@ pub returns-then-choose_formed : goal.returns-then-choose_formed
 returns-then-choose_formed c = (
   search rules,
   search rules,
-  z_in _ _ _ _ _ _ _ _ c.choose_formed.ensures c.if-choose_formed.true c.load-z.ensures,
-  x_in _ _ _ _ _ _ _ _ c.choose_formed.ensures c.if-choose_formed.true c.load-x.ensures,
+  z_in _ _ _ _ _ _ _ _ c.choose_formed.ensures c.if-choose_formed.true c.at-z.ensures,
+  x_in _ _ _ _ _ _ _ _ c.choose_formed.ensures c.if-choose_formed.true c.at-x.ensures,
 )

@@ -7,6 +7,6 @@ pub returns-then-turn_formed : goal.returns-then-turn_formed
 returns-then-turn_formed c = (
   search rules,
   search rules,
-  y_in _ _ _ _ _ c.turn_formed.ensures c.if-turn_formed.true _ c.load-y.ensures,
+  y_in _ _ _ _ _ c.turn_formed.ensures c.if-turn_formed.true _ c.at-y.ensures,
   y_rank _ _ _ _ _ c.turn_formed.ensures c.if-turn_formed.true,
 )

@@ -6,4 +6,4 @@ use Rattle.settling.proofs.commit_four.Goals as goal
 
 pub returns : goal.returns
 unfolding commit_four
-returns c = (search rules, pz_in_four _ _ _ _ _ _ _ _ c.load-pz.ensures _ _ c.may_change.ensures.1 _ _ c.grounds_four.ensures)
+returns c = (search rules, pz_in_four _ _ _ _ _ _ _ _ c.at-pz.ensures _ _ c.may_change.ensures.1 _ _ c.grounds_four.ensures)

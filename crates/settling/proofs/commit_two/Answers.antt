@@ -6,4 +6,4 @@ use Rattle.settling.proofs.commit_two.Goals as goal
 
 pub returns : goal.returns
 unfolding commit_two
-returns c = (search rules, pz_in_two _ _ _ _ _ _ _ _ c.load-pz.ensures _ _ c.may_change.ensures.1 c.grounds_two.ensures)
+returns c = (search rules, pz_in_two _ _ _ _ _ _ _ _ c.at-pz.ensures _ _ c.may_change.ensures.1 c.grounds_two.ensures)
