@@ -11,8 +11,8 @@ use Rattle.machine.specs.Record.{other}
 use Rattle.machine.specs.Table.{View}
 use Rattle.machine.specs.Rows.{parent_row, level_row}
 use Rattle.machine.specs.Settling.{choose_formed, turn_formed}
-use Rattle.choosing.specs.declared.Chosen.{Chosen}
-use Rattle.choosing.specs.declared.Turning.{Turning}
+use Rattle.settling.specs.declared.Chosen.{Chosen}
+use Rattle.settling.specs.declared.Turning.{Turning}
 
 -- z, x and s
 abbrev pub Choosing : View → ℕ → Path → Links → Result Chosen Turn → Type 0

@@ -1,39 +1,24 @@
 // Settling: each step chooses by the links noted so far.
-#![tactic(auto)]
+#![tactic(auto, unfolding(machine::specs::Contract::acted, machine::specs::Contract::played, machine::specs::Table::puts, machine::specs::Choice::if_b, machine::specs::Settling::choose_formed, machine::specs::Settling::turn_formed, machine::specs::Settling::read_grand, machine::specs::Settling::read_parent, machine::specs::Settling::read_on, machine::specs::Settling::settle_step, machine::specs::Settling::choose_step, machine::specs::Settling::choose_by, machine::specs::Settling::rotate_step, machine::specs::Settling::rotate_first, machine::specs::Settling::rotate_turn, machine::specs::Settling::rotate_on, machine::specs::Settling::double_step, machine::specs::Settling::double_first, machine::specs::Settling::double_turn))]
 
-ghost use Rattle.std.specs.Prelude.{◌≡◌, ◌+◌, ◌-◌, ◌*◌, ◌≤◌, ◌<◌};
-ghost use Rattle.fields.specs.Writes.{seen, read, Writes, Does};
-ghost use Rattle.machine.specs.Record.{other};
-ghost use Rattle.machine.specs.Rows.{around_of};
-ghost use Rattle.machine.specs.Settling.{choose_formed, turn_formed, choose_step, rotate_turn, rotate_step, double_turn, double_step, settle_step};
-ghost use Rattle.walk.specs.Inside.{Inside};
+ghost use Rattle.std.specs.Prelude.{◌≡◌, ◌-◌, ◌<◌};
+ghost use Rattle.terms.specs.declared.ParentRow.TheVariants.{Wider};
+ghost use Rattle.terms.specs.declared.SettleStage.TheVariants.{SettleChoose, SettleRotate, SettleDouble};
+ghost use Rattle.fields.specs.Writes.{seen, read, Does};
+ghost use Rattle.machine.specs.Settling.{choose_formed, turn_formed, rotate_first, double_first, settle_step};
 ghost use Rattle.walk.specs.Stopped.{or_calm};
 ghost use Rattle.choosing.specs.Chosen.{Choosing, Turned};
 
 use fields::{Slots, SlotsMut, in_tree, is_linked, well_formed};
-use rows::{Level, Rotation, level_row, parent_row};
-use settling::{commit_four, commit_three, commit_two, double_by, promote_by, rotate_by};
+use rows::{Level, level_row, parent_row};
+use settling::{
+    Chosen, Turning, commit_four, commit_three, commit_two, double_by, promote_by, rotate_by,
+};
 use terms::{
     Around, Job, LevelRow, Links, Outcome, ParentRow, Path, Phase, Rec, SettleStage, Turn,
 };
 use walk::{busy_in, calm_turn, or_calm, read_leading, read_record};
 
-// What a step that must choose goes by: the row of z and s, and the records of z and x.
-#[derive(Clone, Copy)]
-struct Chosen {
-    row: ParentRow,
-    z: Rec,
-    x: Rec,
-}
-
-// With a rotation to come: the row of x, y and w, and the record of y.
-#[derive(Clone, Copy)]
-struct Turning {
-    row: LevelRow,
-    y: Rec,
-}
-
-#[tactic(auto, unfolding(machine::specs::Settling::choose_formed, machine::specs::Choice::if_b))]
 fn choose_formed(n: u32, k: Level, z: Rec, x: Rec, s: Rec) -> bool
     ensures { result ≡ choose_formed n k.path k.z z x s }
 {
@@ -41,7 +26,6 @@ fn choose_formed(n: u32, k: Level, z: Rec, x: Rec, s: Rec) -> bool
     well_formed(n, k.path.parent, z) & others
 }
 
-#[tactic(auto, unfolding(machine::specs::Settling::turn_formed, machine::specs::Choice::if_b))]
 fn turn_formed(n: u32, o: Around, y: Rec, w: Rec) -> bool
     ensures { result ≡ turn_formed n o y w }
 {
@@ -83,80 +67,67 @@ fn turn_row(t: &Slots, o: Around, x: Rec) -> Result<Turning, Turn>
 }
 
 // pz and z noted: promote, or read x.
-#[tactic(auto, unfolding(machine::specs::Contract::acted, machine::specs::Contract::played, machine::specs::Table::puts, machine::specs::Choice::if_b, machine::specs::Settling::choose_step, machine::specs::Settling::choose_by, machine::specs::Settling::read_on))]
 fn choose_step(t: &mut SlotsMut, k: Level) -> Result<Outcome, Turn>
-    ensures { Does t.old t.new (or_calm result) (choose_step (read t.old) t.old.n k.job k.path k.pz k.z (read t.old k.path.parent) (read t.old k.path.here) (read t.old (other k.z k.path.here))) }
+    ensures { Does t.old t.new (or_calm result) (settle_step (read t.old) t.old.n k.job k.path (SettleChoose k.pz k.z)) }
 {
     let e = choose_row(&t.read(), k)?;
     if matches!(e.row, ParentRow::Wider) {
         let task = k.at(SettleStage::SettleChoose(k.pz, k.z));
         return Ok(calm_turn(read_record(task, true, in_tree(e.x), e.x)));
     }
-    commit_two(&t.read(), k, e.z, e.x)?;
-    promote_by(t, e.row, k, e.z)
+    commit_two(&t.read(), k, e)?;
+    promote_by(t, k, e)
 }
 
 // x noted too, and a rotation to come: rotate, or read y.
-#[tactic(auto, unfolding(machine::specs::Contract::acted, machine::specs::Contract::played, machine::specs::Table::puts, machine::specs::Choice::if_b, machine::specs::Settling::rotate_turn, machine::specs::Settling::rotate_on, machine::specs::Settling::read_on))]
-fn rotate_turn(t: &mut SlotsMut, k: Level, c: Links, z: Rec, x: Rec) -> Result<Outcome, Turn>
+fn rotate_turn(t: &mut SlotsMut, k: Level, c: Links, e: Chosen) -> Result<Outcome, Turn>
     requires { (k.path.parent < t.old.n) × (k.path.here < t.old.n) }
-    ensures { Does t.old t.new (or_calm result) (rotate_turn (read t.old) t.old.n k.job k.path k.pz k.z c z x (read t.old (around_of k.path k.pz k.z c).y) (read t.old (around_of k.path k.pz k.z c).w)) }
+    ensures { Does t.old t.new (or_calm result) (rotate_first Wider (read t.old) t.old.n k.job k.path k.pz k.z c e.z e.x) }
 {
-    let e = turn_row(&t.read(), k.around(c), x)?;
-    if matches!(e.row, LevelRow::DoubleRotation) {
+    let g = turn_row(&t.read(), k.around(c), e.x)?;
+    if matches!(g.row, LevelRow::DoubleRotation) {
         let task = k.at(SettleStage::SettleRotate(k.pz, k.z, c));
-        return Ok(calm_turn(read_record(task, true, in_tree(e.y), e.y)));
+        return Ok(calm_turn(read_record(task, true, in_tree(g.y), g.y)));
     }
-    commit_three(&t.read(), k, c, z, x)?;
-    rotate_by(t, e.row, k.rotation(c, z, x))
+    commit_three(&t.read(), k, c, e)?;
+    rotate_by(t, g.row, k.rotation(c, e.z, e.x))
 }
 
 // x noted too: promote, or a rotation.
-#[tactic(auto, unfolding(machine::specs::Contract::acted, machine::specs::Contract::played, machine::specs::Settling::rotate_step, machine::specs::Settling::rotate_first, machine::specs::Choice::if_b, machine::specs::Table::puts))]
 fn rotate_step(t: &mut SlotsMut, k: Level, c: Links) -> Result<Outcome, Turn>
-    ensures { Does t.old t.new (or_calm result) (rotate_step (read t.old) t.old.n k.job k.path k.pz k.z c (read t.old k.path.parent) (read t.old k.path.here) (read t.old (other k.z k.path.here))) }
+    ensures { Does t.old t.new (or_calm result) (settle_step (read t.old) t.old.n k.job k.path (SettleRotate k.pz k.z c)) }
 {
     let e = choose_row(&t.read(), k)?;
     if matches!(e.row, ParentRow::Wider) {
-        return rotate_turn(t, k, c, e.z, e.x);
+        return rotate_turn(t, k, c, e);
     }
-    commit_three(&t.read(), k, c, e.z, e.x)?;
-    promote_by(t, e.row, k, e.z)
+    commit_three(&t.read(), k, c, e)?;
+    promote_by(t, k, e)
 }
 
 // y noted too, and a rotation to come: the commit, by the ranks found now.
-#[tactic(auto, unfolding(machine::specs::Contract::acted, machine::specs::Contract::played, machine::specs::Table::puts, machine::specs::Choice::if_b, machine::specs::Settling::double_turn))]
-fn double_turn(
-    t: &mut SlotsMut,
-    k: Level,
-    c: Links,
-    d: Links,
-    z: Rec,
-    x: Rec,
-) -> Result<Outcome, Turn>
+fn double_turn(t: &mut SlotsMut, k: Level, c: Links, d: Links, e: Chosen) -> Result<Outcome, Turn>
     requires { (k.path.parent < t.old.n) × (k.path.here < t.old.n) }
-    ensures { Does t.old t.new (or_calm result) (double_turn (read t.old) t.old.n k.job k.path k.pz k.z c d z x (read t.old (around_of k.path k.pz k.z c).y) (read t.old (around_of k.path k.pz k.z c).w)) }
+    ensures { Does t.old t.new (or_calm result) (double_first Wider (read t.old) t.old.n k.job k.path k.pz k.z c d e.z e.x) }
 {
-    let e = turn_row(&t.read(), k.around(c), x)?;
-    commit_four(&t.read(), k, c, d, z, x)?;
-    double_by(t, e.row, k.rotation(c, z, x), e.y, d)
+    let g = turn_row(&t.read(), k.around(c), e.x)?;
+    commit_four(&t.read(), k, c, d, e)?;
+    double_by(t, k.rotation(c, e.z, e.x), g, d)
 }
 
 // y noted too: promote, or a rotation.
-#[tactic(auto, unfolding(machine::specs::Contract::acted, machine::specs::Contract::played, machine::specs::Settling::double_step, machine::specs::Settling::double_first, machine::specs::Choice::if_b, machine::specs::Table::puts))]
 fn double_step(t: &mut SlotsMut, k: Level, c: Links, d: Links) -> Result<Outcome, Turn>
-    ensures { Does t.old t.new (or_calm result) (double_step (read t.old) t.old.n k.job k.path k.pz k.z c d (read t.old k.path.parent) (read t.old k.path.here) (read t.old (other k.z k.path.here))) }
+    ensures { Does t.old t.new (or_calm result) (settle_step (read t.old) t.old.n k.job k.path (SettleDouble k.pz k.z c d)) }
 {
     let e = choose_row(&t.read(), k)?;
     if matches!(e.row, ParentRow::Wider) {
-        return double_turn(t, k, c, d, e.z, e.x);
+        return double_turn(t, k, c, d, e);
     }
-    commit_four(&t.read(), k, c, d, e.z, e.x)?;
-    promote_by(t, e.row, k, e.z)
+    commit_four(&t.read(), k, c, d, e)?;
+    promote_by(t, k, e)
 }
 
 // A step of a settling task that stands on a level record.
-#[tactic(auto, unfolding(machine::specs::Contract::acted, machine::specs::Contract::played, machine::specs::Settling::settle_step, machine::specs::Settling::read_grand, machine::specs::Settling::read_parent, machine::specs::Choice::if_b, machine::specs::Table::puts))]
 pub fn settle_step(t: &mut SlotsMut, j: Job, q: Path, f: SettleStage) -> Outcome
     ensures { Does t.old t.new result (settle_step (read t.old) t.old.n j q f) }
 {

@@ -1,10 +1,10 @@
 // The settling table: which row fits, and the writes of each row. Both mirror forms are one text.
-#![tactic(auto)]
+#![tactic(auto, unfolding(machine::specs::Table::puts, machine::specs::Choice::if_b, machine::specs::Rows::around_of, machine::specs::Rows::parent_row, machine::specs::Rows::level_row, machine::specs::Rows::sided, machine::specs::Rows::link_at, machine::specs::Rows::rotate_writes, machine::specs::Rows::double_writes))]
 
-ghost use Rattle.std.specs.Prelude.{◌≡◌, ◌+◌, ◌-◌, ◌*◌, ◌≤◌, ◌<◌, eqb, slice_index};
+ghost use Rattle.std.specs.Prelude.{◌≡◌, ◌+◌, ◌-◌, ◌<◌, eqb, slice_index};
 ghost use Rattle.terms.specs.Task.{busy};
 ghost use Rattle.terms.specs.declared.Phase.TheVariants.{Settling};
-ghost use Rattle.fields.specs.Writes.{seen, read, Writes, Does};
+ghost use Rattle.fields.specs.Writes.{Writes};
 ghost use Rattle.machine.specs.Record.{other};
 ghost use Rattle.machine.specs.Rows.{parent_row, level_row, sided, link_at, around_of, promote_writes, rotate_writes, double_x, double_z, double_writes};
 ghost use Rattle.room.specs.Found.{AllBelow};
@@ -50,7 +50,6 @@ impl Level {
     }
 
     // Where the records around x stand, by its links c too.
-    #[tactic(auto, unfolding(machine::specs::Rows::around_of, machine::specs::Choice::if_b))]
     pub fn around(self, c: Links) -> Around
         ensures { result ≡ around_of self.path self.pz self.z c }
     {
@@ -79,7 +78,6 @@ impl Level {
 }
 
 // The rows that z and s decide, by their ranks.
-#[tactic(auto, unfolding(machine::specs::Rows::parent_row, machine::specs::Choice::if_b))]
 pub fn parent_row(z: u32, s: u32) -> ParentRow
     ensures { result ≡ parent_row z s }
 {
@@ -93,7 +91,6 @@ pub fn parent_row(z: u32, s: u32) -> ParentRow
 }
 
 // The rows that x, y and w decide, by their ranks.
-#[tactic(auto, unfolding(machine::specs::Rows::level_row, machine::specs::Choice::if_b))]
 pub fn level_row(x: u32, y: u32, w: u32) -> LevelRow
     ensures { result ≡ level_row x y w }
 {
@@ -106,7 +103,6 @@ pub fn level_row(x: u32, y: u32, w: u32) -> LevelRow
 }
 
 // An inner record that leads to `near` on x's side and to `far` on the other.
-#[tactic(auto, unfolding(machine::specs::Rows::sided, machine::specs::Choice::if_b))]
 fn sided_record(side: bool, number: u32, rank: u32, near: u32, far: u32) -> Rec
     ensures { result ≡ sided side number rank near far }
 {
@@ -115,7 +111,6 @@ fn sided_record(side: bool, number: u32, rank: u32, near: u32, far: u32) -> Rec
 }
 
 // The link on a side: true is left.
-#[tactic(auto, unfolding(machine::specs::Rows::link_at, machine::specs::Choice::if_b))]
 fn link_at(side: bool, a: Links) -> u32
     ensures { result ≡ link_at side a }
 {
@@ -123,7 +118,6 @@ fn link_at(side: bool, a: Links) -> u32
 }
 
 // Promote: z's copy with one rank more.
-#[tactic(auto, unfolding(machine::specs::Table::puts))]
 pub fn promote_writes(t: &mut SlotsMut, k: Level, z: Rec, i: u32)
     requires { (z.rank < 28) × (i < t.old.n) × (k.path.parent < t.old.n) × (k.path.grand < t.old.n) }
     ensures { Writes t.old t.new (promote_writes k.path (eqb k.pz.left k.path.parent) k.z z i) }
@@ -134,7 +128,6 @@ pub fn promote_writes(t: &mut SlotsMut, k: Level, z: Rec, i: u32)
 }
 
 // Rotate: x on top with rank rx, z below it with rank rz.
-#[tactic(auto, unfolding(machine::specs::Rows::rotate_writes, machine::specs::Choice::if_b, machine::specs::Table::puts))]
 pub fn rotate_writes(t: &mut SlotsMut, r: Rotation, rx: u32, rz: u32, slots: [u32; 2])
     requires { AllBelow t.old.n slots × Inside t.old.n r.path }
     ensures { Writes t.old t.new (rotate_writes r.path r.around r.z r.x rx rz (slice_index slots 0) (slice_index slots 1)) }
@@ -174,7 +167,6 @@ fn double_z(o: Around, d: Links, z: Rec) -> Rec
 }
 
 // Double rotation: y on top, x and z below it on their sides.
-#[tactic(auto, unfolding(machine::specs::Rows::double_writes, machine::specs::Choice::if_b, machine::specs::Table::puts))]
 pub fn double_writes(t: &mut SlotsMut, r: Rotation, y: Rec, d: Links, slots: [u32; 3])
     requires { (y.rank < 4294967295) × AllBelow t.old.n slots × Inside t.old.n r.path × (r.around.y < t.old.n) }
     ensures { Writes t.old t.new (double_writes r.path r.around d r.z r.x y (slice_index slots 0) (slice_index slots 1) (slice_index slots 2)) }

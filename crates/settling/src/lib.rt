@@ -1,10 +1,10 @@
 // Settling: the commits by how many records were read, and the changes by their rows.
-#![tactic(auto)]
+#![tactic(auto, unfolding(machine::specs::Contract::acted, machine::specs::Contract::played, machine::specs::Table::puts, machine::specs::Choice::if_b, machine::specs::Settling::grounds_two, machine::specs::Settling::grounds_three, machine::specs::Settling::grounds_four, machine::specs::Settling::test_two, machine::specs::Settling::test_three, machine::specs::Settling::test_four, machine::specs::Settling::commit_two, machine::specs::Settling::commit_three, machine::specs::Settling::commit_four, machine::specs::Settling::promote_do, machine::specs::Table::slot1, machine::specs::Settling::rotate_do, machine::specs::Table::slot2, machine::specs::Settling::rotate_two_do, machine::specs::Settling::double_do, machine::specs::Table::slot3, machine::specs::Settling::promote_by, machine::specs::Settling::rotate_by, machine::specs::Settling::double_by))]
 
-ghost use Rattle.std.specs.Prelude.{◌≡◌, ◌+◌, ◌-◌, ◌*◌, ◌≤◌, ◌<◌, eqb, IfOk};
+ghost use Rattle.std.specs.Prelude.{◌≡◌, ◌+◌, ◌-◌, ◌<◌, eqb, IfOk};
 ghost use Rattle.terms.specs.declared.LevelRow.TheVariants.{DoubleRotation};
 ghost use Rattle.machine.specs.Commit.{Did};
-ghost use Rattle.fields.specs.Writes.{seen, read, Writes, Does};
+ghost use Rattle.fields.specs.Writes.{seen, read, Does};
 ghost use Rattle.machine.specs.Rows.{around_of};
 ghost use Rattle.machine.specs.Settling.{grounds_two, grounds_three, grounds_four, test_two, test_three, test_four, commit_two, commit_three, commit_four, promote_do, rotate_do, rotate_two_do, double_do, rotate_by, double_by, promote_by};
 ghost use Rattle.settling.specs.Again.{settled_on};
@@ -19,81 +19,86 @@ use terms::{
 };
 use walk::{busy_in, calm_turn, may_change};
 
+// What a step that chooses goes by: the row of z and s, and the records of z and x.
+#[derive(Clone, Copy)]
+pub struct Chosen {
+    pub row: ParentRow,
+    pub z: Rec,
+    pub x: Rec,
+}
+
+// With a rotation to come: the row of x, y and w, and the record of y.
+#[derive(Clone, Copy)]
+pub struct Turning {
+    pub row: LevelRow,
+    pub y: Rec,
+}
+
 // The grounds of 17 before the test, by how many records were read.
-#[tactic(auto, unfolding(machine::specs::Settling::grounds_two, machine::specs::Choice::if_b))]
-fn grounds_two(n: u32, k: Level, pz: Rec, z: Rec, x: Rec) -> bool
-    ensures { result ≡ grounds_two n k.path k.pz k.z pz z x }
+fn grounds_two(n: u32, k: Level, pz: Rec, e: Chosen) -> bool
+    ensures { result ≡ grounds_two n k.path k.pz k.z pz e.z e.x }
 {
     let q = k.path;
-    let led = lead_to(k.pz, q.parent) & (lead_to(k.z, q.here) & is_level(z, x));
+    let led = lead_to(k.pz, q.parent) & (lead_to(k.z, q.here) & is_level(e.z, e.x));
     well_formed(n, q.grand, pz) & ((q.grand != q.parent) & led)
 }
 
-#[tactic(auto, unfolding(machine::specs::Settling::grounds_three, machine::specs::Choice::if_b))]
-fn grounds_three(n: u32, k: Level, pz: Rec, z: Rec, x: Rec) -> bool
-    ensures { result ≡ grounds_three n k.path k.pz k.z pz z x }
+fn grounds_three(n: u32, k: Level, pz: Rec, e: Chosen) -> bool
+    ensures { result ≡ grounds_three n k.path k.pz k.z pz e.z e.x }
 {
     let q = k.path;
-    grounds_two(n, k, pz, z, x) & ((q.grand != q.here) & (q.parent != q.here))
+    grounds_two(n, k, pz, e) & ((q.grand != q.here) & (q.parent != q.here))
 }
 
-#[tactic(auto, unfolding(machine::specs::Settling::grounds_four, machine::specs::Choice::if_b))]
-fn grounds_four(n: u32, k: Level, i: u32, pz: Rec, z: Rec, x: Rec, y: Rec) -> bool
-    ensures { result ≡ grounds_four n k.path k.pz k.z i pz z x y }
+fn grounds_four(n: u32, k: Level, i: u32, pz: Rec, e: Chosen, y: Rec) -> bool
+    ensures { result ≡ grounds_four n k.path k.pz k.z i pz e.z e.x y }
 {
     let q = k.path;
     let apart = (q.grand != i) & ((q.parent != i) & (q.here != i));
-    grounds_three(n, k, pz, z, x) & (is_linked(n, i, y) & apart)
+    grounds_three(n, k, pz, e) & (is_linked(n, i, y) & apart)
 }
 
 // The test, likewise.
-#[tactic(auto, unfolding(machine::specs::Settling::test_two, machine::specs::Choice::if_b))]
-fn test_two(k: Level, pz: Rec, z: Rec) -> bool
-    ensures { result ≡ test_two k.pz k.z pz z }
+fn test_two(k: Level, pz: Rec, e: Chosen) -> bool
+    ensures { result ≡ test_two k.pz k.z pz e.z }
 {
-    is_still(pz, k.pz) & is_still(z, k.z)
+    is_still(pz, k.pz) & is_still(e.z, k.z)
 }
 
-#[tactic(auto, unfolding(machine::specs::Settling::test_three, machine::specs::Choice::if_b))]
-fn test_three(k: Level, c: Links, pz: Rec, z: Rec, x: Rec) -> bool
-    ensures { result ≡ test_three k.pz k.z c pz z x }
+fn test_three(k: Level, c: Links, pz: Rec, e: Chosen) -> bool
+    ensures { result ≡ test_three k.pz k.z c pz e.z e.x }
 {
-    test_two(k, pz, z) & is_still(x, c)
+    test_two(k, pz, e) & is_still(e.x, c)
 }
 
-#[tactic(auto, unfolding(machine::specs::Settling::test_four, machine::specs::Choice::if_b))]
-fn test_four(k: Level, c: Links, d: Links, pz: Rec, z: Rec, x: Rec, y: Rec) -> bool
-    ensures { result ≡ test_four k.pz k.z c d pz z x y }
+fn test_four(k: Level, c: Links, d: Links, pz: Rec, e: Chosen, y: Rec) -> bool
+    ensures { result ≡ test_four k.pz k.z c d pz e.z e.x y }
 {
-    test_three(k, c, pz, z, x) & is_still(y, d)
+    test_three(k, c, pz, e) & is_still(y, d)
 }
 
 // What stops a commit with two, three and four records read: pz, z, x and y.
-#[tactic(auto, unfolding(machine::specs::Settling::commit_two))]
-pub fn commit_two(t: &Slots, k: Level, z: Rec, x: Rec) -> Result<(), Turn>
-    ensures { ((e : Did) → commit_two (seen t.now) t.now.n k.job k.path k.pz k.z z x e ≡ or_stopped e result) × IfOk result (λ u. k.path.grand < t.now.n) }
+pub fn commit_two(t: &Slots, k: Level, e: Chosen) -> Result<(), Turn>
+    ensures commits { (d : Did) → commit_two (seen t.now) t.now.n k.job k.path k.pz k.z e.z e.x d ≡ or_stopped d result }
+    ensures pz_stands { IfOk result (λ u. k.path.grand < t.now.n) }
 {
     let pz = t.at(k.path.grand);
     let task = k.at(SettleStage::SettleChoose(k.pz, k.z));
-    may_change(task, grounds_two(t.n, k, pz, z, x), test_two(k, pz, z))
+    may_change(task, grounds_two(t.n, k, pz, e), test_two(k, pz, e))
 }
 
-#[tactic(auto, unfolding(machine::specs::Settling::commit_three))]
-pub fn commit_three(t: &Slots, k: Level, c: Links, z: Rec, x: Rec) -> Result<(), Turn>
-    ensures { ((e : Did) → commit_three (seen t.now) t.now.n k.job k.path k.pz k.z c z x e ≡ or_stopped e result) × IfOk result (λ u. k.path.grand < t.now.n) }
+pub fn commit_three(t: &Slots, k: Level, c: Links, e: Chosen) -> Result<(), Turn>
+    ensures commits { (d : Did) → commit_three (seen t.now) t.now.n k.job k.path k.pz k.z c e.z e.x d ≡ or_stopped d result }
+    ensures pz_stands { IfOk result (λ u. k.path.grand < t.now.n) }
 {
     let pz = t.at(k.path.grand);
     let task = k.at(SettleStage::SettleRotate(k.pz, k.z, c));
-    may_change(
-        task,
-        grounds_three(t.n, k, pz, z, x),
-        test_three(k, c, pz, z, x),
-    )
+    may_change(task, grounds_three(t.n, k, pz, e), test_three(k, c, pz, e))
 }
 
-#[tactic(auto, unfolding(machine::specs::Settling::commit_four))]
-pub fn commit_four(t: &Slots, k: Level, c: Links, d: Links, z: Rec, x: Rec) -> Result<(), Turn>
-    ensures { ((e : Did) → commit_four (seen t.now) t.now.n k.job k.path k.pz k.z c d (around_of k.path k.pz k.z c).y z x e ≡ or_stopped e result) × IfOk result (λ u. k.path.grand < t.now.n) }
+pub fn commit_four(t: &Slots, k: Level, c: Links, d: Links, e: Chosen) -> Result<(), Turn>
+    ensures commits { (f : Did) → commit_four (seen t.now) t.now.n k.job k.path k.pz k.z c d (around_of k.path k.pz k.z c).y e.z e.x f ≡ or_stopped f result }
+    ensures pz_stands { IfOk result (λ u. k.path.grand < t.now.n) }
 {
     let i = k.around(c).y;
     let pz = t.at(k.path.grand);
@@ -101,8 +106,8 @@ pub fn commit_four(t: &Slots, k: Level, c: Links, d: Links, z: Rec, x: Rec) -> R
     let task = k.at(SettleStage::SettleDouble(k.pz, k.z, c, d));
     may_change(
         task,
-        grounds_four(t.n, k, i, pz, z, x, y),
-        test_four(k, c, d, pz, z, x, y),
+        grounds_four(t.n, k, i, pz, e, y),
+        test_four(k, c, d, pz, e, y),
     )
 }
 
@@ -114,7 +119,6 @@ fn settled_on(j: Job) -> Outcome
 }
 
 // Promote.
-#[tactic(auto, unfolding(machine::specs::Contract::acted, machine::specs::Contract::played, machine::specs::Settling::promote_do, machine::specs::Choice::if_b, machine::specs::Table::puts, machine::specs::Table::slot1))]
 fn promote_do(t: &mut SlotsMut, k: Level, z: Rec) -> Result<Outcome, Turn>
     requires { (k.path.parent < t.old.n) × (k.path.grand < t.old.n) }
     ensures { Does t.old t.new (or_calm result) (promote_do (read t.old) t.old.n k.job k.path (eqb k.pz.left k.path.parent) k.z z) }
@@ -128,7 +132,6 @@ fn promote_do(t: &mut SlotsMut, k: Level, z: Rec) -> Result<Outcome, Turn>
 }
 
 // Rotate, with the new ranks of x and z.
-#[tactic(auto, unfolding(machine::specs::Contract::acted, machine::specs::Contract::played, machine::specs::Settling::rotate_do, machine::specs::Choice::if_b, machine::specs::Table::puts, machine::specs::Table::slot1, machine::specs::Table::slot2))]
 fn rotate_do(t: &mut SlotsMut, r: Rotation, rx: u32, rz: u32) -> Result<Outcome, Turn>
     requires { Inside t.old.n r.path }
     ensures { Does t.old t.new (or_calm result) (rotate_do (read t.old) t.old.n r.job r.path r.around r.z r.x rx rz) }
@@ -138,7 +141,6 @@ fn rotate_do(t: &mut SlotsMut, r: Rotation, rx: u32, rz: u32) -> Result<Outcome,
     Ok(settled_on(r.job))
 }
 
-#[tactic(auto, unfolding(machine::specs::Contract::acted, machine::specs::Contract::played, machine::specs::Settling::rotate_two_do, machine::specs::Choice::if_b, machine::specs::Table::puts))]
 fn rotate_two_do(t: &mut SlotsMut, r: Rotation) -> Result<Outcome, Turn>
     requires { Inside t.old.n r.path }
     ensures { Does t.old t.new (or_calm result) (rotate_two_do (read t.old) t.old.n r.job r.path r.around r.z r.x) }
@@ -151,7 +153,6 @@ fn rotate_two_do(t: &mut SlotsMut, r: Rotation) -> Result<Outcome, Turn>
 }
 
 // Double rotation; d are y's links.
-#[tactic(auto, unfolding(machine::specs::Contract::acted, machine::specs::Contract::played, machine::specs::Settling::double_do, machine::specs::Choice::if_b, machine::specs::Table::puts, machine::specs::Table::slot1, machine::specs::Table::slot2, machine::specs::Table::slot3))]
 fn double_do(t: &mut SlotsMut, r: Rotation, y: Rec, d: Links) -> Result<Outcome, Turn>
     requires { (y.rank < 4294967295) × Inside t.old.n r.path × (r.around.y < t.old.n) }
     ensures { Does t.old t.new (or_calm result) (double_do (read t.old) t.old.n r.job r.path r.around d r.z r.x y) }
@@ -162,18 +163,16 @@ fn double_do(t: &mut SlotsMut, r: Rotation, y: Rec, d: Links) -> Result<Outcome,
 }
 
 // The change by its row.
-#[tactic(auto, unfolding(machine::specs::Contract::acted, machine::specs::Contract::played, machine::specs::Settling::promote_by, machine::specs::Choice::if_b, machine::specs::Table::puts))]
-pub fn promote_by(t: &mut SlotsMut, row: ParentRow, k: Level, z: Rec) -> Result<Outcome, Turn>
+pub fn promote_by(t: &mut SlotsMut, k: Level, e: Chosen) -> Result<Outcome, Turn>
     requires { (k.path.parent < t.old.n) × (k.path.grand < t.old.n) }
-    ensures { Does t.old t.new (or_calm result) (promote_by row (read t.old) t.old.n k.job k.path k.pz k.z z) }
+    ensures { Does t.old t.new (or_calm result) (promote_by e.row (read t.old) t.old.n k.job k.path k.pz k.z e.z) }
 {
-    match row {
-        ParentRow::Promote => promote_do(t, k, z),
+    match e.row {
+        ParentRow::Promote => promote_do(t, k, e.z),
         ParentRow::Outranked | ParentRow::Wider => Err(Turn::Hurt),
     }
 }
 
-#[tactic(auto, unfolding(machine::specs::Contract::acted, machine::specs::Contract::played, machine::specs::Settling::rotate_by, machine::specs::Choice::if_b, machine::specs::Table::puts))]
 pub fn rotate_by(t: &mut SlotsMut, row: LevelRow, r: Rotation) -> Result<Outcome, Turn>
     requires { Inside t.old.n r.path }
     ensures { Does t.old t.new (or_calm result) (rotate_by row (read t.old) t.old.n r.job r.path r.around r.z r.x) }
@@ -185,19 +184,12 @@ pub fn rotate_by(t: &mut SlotsMut, row: LevelRow, r: Rotation) -> Result<Outcome
     }
 }
 
-#[tactic(auto, unfolding(machine::specs::Contract::acted, machine::specs::Contract::played, machine::specs::Settling::double_by, machine::specs::Settling::rotate_by, machine::specs::Choice::if_b, machine::specs::Table::puts))]
-pub fn double_by(
-    t: &mut SlotsMut,
-    row: LevelRow,
-    r: Rotation,
-    y: Rec,
-    d: Links,
-) -> Result<Outcome, Turn>
-    requires { (row ≡ DoubleRotation → y.rank < 4294967295) × Inside t.old.n r.path × (r.around.y < t.old.n) }
-    ensures { Does t.old t.new (or_calm result) (double_by row (read t.old) t.old.n r.job r.path r.around d r.z r.x y) }
+pub fn double_by(t: &mut SlotsMut, r: Rotation, g: Turning, d: Links) -> Result<Outcome, Turn>
+    requires { (g.row ≡ DoubleRotation → g.y.rank < 4294967295) × Inside t.old.n r.path × (r.around.y < t.old.n) }
+    ensures { Does t.old t.new (or_calm result) (double_by g.row (read t.old) t.old.n r.job r.path r.around d r.z r.x g.y) }
 {
-    match row {
-        LevelRow::DoubleRotation => double_do(t, r, y, d),
-        _ => rotate_by(t, row, r),
+    match g.row {
+        LevelRow::DoubleRotation => double_do(t, r, g.y, d),
+        _ => rotate_by(t, g.row, r),
     }
 }
