@@ -3,19 +3,16 @@
 
 ghost use Rattle.std.specs.Prelude.{◌≡◌, ◌&&◌, not, ◌+◌, ◌-◌, ◌*◌, ◌≤◌, ◌<◌, length};
 ghost use Rattle.machine.specs.Contract.{after};
-ghost use Rattle.terms.specs.Answers.{price_of};
 ghost use Rattle.machine.specs.CallFile.{job_of, no_job, begins, steps, abandons, tidies, operation_of, by_operation, decode, run_of, serve, printed, line_of, record_of};
 ghost use Rattle.callfile.specs.Line.{numbers, served};
 
 use beginning::{abandon, begin};
-use state::number_of;
 use stepping::step;
 use terms::{Answer, Call, Job, Operation, Out, State};
 use whole::tidy;
-use words::{four_at, two_at, wide};
+use words::{four_at, two_at};
 
-fn job_of(b: &[u8]) -> Job
-    requires { 12 ≤ length b.now }
+fn job_of(b: &[u8; 12]) -> Job
     ensures { result ≡ job_of b.now }
 {
     Job {
@@ -26,8 +23,7 @@ fn job_of(b: &[u8]) -> Job
 
 // Whether fare number and price are zero.
 #[tactic(auto, unfolding(machine::specs::CallFile::no_job))]
-fn no_job(b: &[u8]) -> bool
-    requires { 12 ≤ length b.now }
+fn no_job(b: &[u8; 12]) -> bool
     ensures { result ≡ no_job b.now }
 {
     (four_at(b, 4) == 0) & (four_at(b, 8) == 0)
@@ -35,50 +31,48 @@ fn no_job(b: &[u8]) -> bool
 
 // A begin: its count is not used.
 #[tactic(auto, unfolding(machine::specs::CallFile::begins, machine::specs::Choice::if_b))]
-fn begins_of(b: &[u8], o: Operation) -> Call
-    requires { 12 ≤ length b.now }
+fn begins_of(b: &[u8; 12], o: Operation) -> Call
     ensures { result ≡ begins b.now o }
 {
-    let none = two_at(b, 2) == 0;
-    if none {
-        return Call::Begin(o, wide(b[1]), job_of(b));
+    if two_at(b, 2) == 0 {
+        Call::Begin(o, u32::from(b[1]), job_of(b))
+    } else {
+        Call::Bad
     }
-    Call::Bad
 }
 
 #[tactic(auto, unfolding(machine::specs::CallFile::steps, machine::specs::Choice::if_b))]
-fn steps_of(b: &[u8]) -> Call
-    requires { 12 ≤ length b.now }
+fn steps_of(b: &[u8; 12]) -> Call
     ensures { result ≡ steps b.now }
 {
     let count = two_at(b, 2);
     if (count != 0) & no_job(b) {
-        return Call::Steps(wide(b[1]), count);
+        Call::Steps(u32::from(b[1]), count)
+    } else {
+        Call::Bad
     }
-    Call::Bad
 }
 
 #[tactic(auto, unfolding(machine::specs::CallFile::abandons, machine::specs::Choice::if_b))]
-fn abandons_of(b: &[u8]) -> Call
-    requires { 12 ≤ length b.now }
+fn abandons_of(b: &[u8; 12]) -> Call
     ensures { result ≡ abandons b.now }
 {
     if (two_at(b, 2) == 0) & no_job(b) {
-        return Call::Abandon(wide(b[1]));
+        Call::Abandon(u32::from(b[1]))
+    } else {
+        Call::Bad
     }
-    Call::Bad
 }
 
 #[tactic(auto, unfolding(machine::specs::CallFile::tidies, machine::specs::Choice::if_b))]
-fn tidies_of(b: &[u8]) -> Call
-    requires { 12 ≤ length b.now }
+fn tidies_of(b: &[u8; 12]) -> Call
     ensures { result ≡ tidies b.now }
 {
-    let task = wide(b[1]);
-    if (task == 0) & ((two_at(b, 2) == 0) & no_job(b)) {
-        return Call::Tidy;
+    if (b[1] == 0) & ((two_at(b, 2) == 0) & no_job(b)) {
+        Call::Tidy
+    } else {
+        Call::Bad
     }
-    Call::Bad
 }
 
 // The operation that a begin's byte names.
@@ -86,19 +80,16 @@ fn tidies_of(b: &[u8]) -> Call
 pub fn operation_of(o: u32) -> Operation
     ensures { result ≡ operation_of o }
 {
-    if o == 1 {
-        return Operation::LookUp;
+    match o {
+        1 => Operation::LookUp,
+        2 => Operation::PutIn,
+        _ => Operation::TakeOut,
     }
-    if o == 2 {
-        return Operation::PutIn;
-    }
-    Operation::TakeOut
 }
 
 // The call by its operation byte.
 #[tactic(auto, unfolding(machine::specs::CallFile::by_operation, machine::specs::Choice::if_b))]
-fn by_operation(o: u32, b: &[u8]) -> Call
-    requires { 12 ≤ length b.now }
+fn by_operation(o: u32, b: &[u8; 12]) -> Call
     ensures { result ≡ by_operation o b.now }
 {
     match o {
@@ -115,34 +106,27 @@ fn by_operation(o: u32, b: &[u8]) -> Call
 fn call_of(b: &[u8]) -> Call
     ensures { result ≡ decode b.now }
 {
-    if b.len() < 12 {
+    let Some(b) = b.first_chunk() else {
         return Call::Bad;
-    }
-    by_operation(wide(b[0]), b)
+    };
+    by_operation(u32::from(b[0]), b)
 }
 
 // Operation 4: so many steps of task i, as long as they answer 0.
 fn run(t: &mut [u32], st: State, i: u32, count: u32) -> Out
     ensures { after t.new result ≡ run_of count t.old st i }
 {
-    if count == 0 {
-        return Out {
-            state: st,
-            answer: Answer::Accepted,
-        };
-    }
-    let mut s = st;
-    let mut left = count;
-    loop {
-        let o = step(t, s, i);
-        let a = o.answer;
-        let on = (number_of(a) == 0) & (left != 1);
-        if !on {
-            return o;
+    let mut o = Out {
+        state: st,
+        answer: Answer::Accepted,
+    };
+    for _ in 0..count {
+        o = step(t, o.state, i);
+        if u32::from(o.answer) != 0 {
+            break;
         }
-        s = o.state;
-        left -= 1;
     }
+    o
 }
 
 // The call is made.
@@ -172,41 +156,13 @@ pub struct Line {
     pub price: u32,
 }
 
-// The price that an answer carries.
-pub fn price_of(a: Answer) -> u32
-    ensures { result ≡ price_of a }
-{
-    match a {
-        Answer::Accepted => 0,
-        Answer::Found(p) => p,
-        Answer::NotHeld => 0,
-        Answer::PutSettled => 0,
-        Answer::HeldAlready => 0,
-        Answer::TakenOut => 0,
-        Answer::PutUnsettled => 0,
-        Answer::TaskNumber => 0,
-        Answer::OutOfRange => 0,
-        Answer::TaskBusy => 0,
-        Answer::TaskIdle => 0,
-        Answer::SomeBusy => 0,
-        Answer::NoRoom => 0,
-        Answer::Limit => 0,
-        Answer::Damaged => 0,
-        Answer::Length => 0,
-        Answer::BadRecord => 0,
-    }
-}
-
 // Operation or task as they print: 0 for a short record.
 #[tactic(auto, unfolding(machine::specs::CallFile::printed, machine::specs::Choice::if_b))]
 fn printed_at(b: &[u8], i: usize) -> u32
     requires { i < 12 }
     ensures { result ≡ printed i b.now }
 {
-    if b.len() < 12 {
-        return 0;
-    }
-    wide(b[i])
+    if b.len() < 12 { 0 } else { u32::from(b[i]) }
 }
 
 #[tactic(auto, unfolding(machine::specs::CallFile::line_of, crate::specs::Line::numbers))]
@@ -214,11 +170,11 @@ fn line_of(place: u64, b: &[u8], a: Answer) -> Line
     ensures { numbers result ≡ line_of place b.now a }
 {
     Line {
-        place: place,
+        place,
         operation: printed_at(b, 0),
         task: printed_at(b, 1),
-        answer: number_of(a),
-        price: price_of(a),
+        answer: u32::from(a),
+        price: a.price(),
     }
 }
 
@@ -234,10 +190,8 @@ pub fn serve_record(t: &mut [u32], st: State, place: u64, b: &[u8]) -> Served
     ensures { served t.new result ≡ record_of t.old st place b.now }
 {
     let o = serve_call(t, st, call_of(b));
-    let s = o.state;
-    let a = o.answer;
     Served {
-        state: s,
-        line: line_of(place, b, a),
+        state: o.state,
+        line: line_of(place, b, o.answer),
     }
 }

@@ -12,8 +12,7 @@ use Rattle.terms.specs.declared.Path.{Path}
 use Rattle.terms.specs.declared.Around.{Around}
 use Rattle.machine.specs.Record.{sentinel, number_fits, price_fits, fare_marks, inner_marks, is_leaf, is_inner, plain_form, entry_form, well_formed, linked}
 use Rattle.machine.specs.Table.{view}
-use Rattle.machine.specs.Rows.{around_of}
-use Rattle.machine.specs.Settling.{grounds_two, grounds_three, grounds_four, choose_formed, turn_formed}
+use Rattle.machine.specs.Settling.{choose_formed, turn_formed}
 use Rattle.machine.proofs.Tests.{both_first, both-second, either_way, formed-in, linked-in}
 
 sentinel-rank : (r : Rec) → sentinel r ≡ true → r.rank ≤ 255
@@ -40,7 +39,7 @@ plain-rank n r e =
     (λ i. either_way (sentinel r) (inner_marks r) (r.rank ≤ 255) (sentinel-rank r) (inner-rank r) (both-second (is_inner n r) _ i))
     e
 
-pub formed-rank : (n s : ℕ) (r : Rec) → well_formed n s r ≡ true → r.rank ≤ 255
+formed-rank : (n s : ℕ) (r : Rec) → well_formed n s r ≡ true → r.rank ≤ 255
 unfolding well_formed entry_form
 formed-rank n s r e =
     either_way (eqb s 0 && entry_form n r) (not (eqb s 0) && plain_form n r) (r.rank ≤ 255)
@@ -69,33 +68,9 @@ module _ (n : ℕ) (o : Around) (y w : Rec) (g : Bool) (eg : g ≡ turn_formed n
   unfolding turn_formed
   y_linked = both_first (linked n o.y y) _ (rw eg at e)
 
-  y_in : (t : List ℕ) → y ≡ view n t o.y → o.y < n
+  pub y_in : (t : List ℕ) → y ≡ view n t o.y → o.y < n
   y_in t ey = linked-in n t o.y (rw ey at y_linked)
-
-  pub y_around :
-      (t : List ℕ) (q : Path) (a b c : Links) → o ≡ around_of q a b c → y ≡ view n t (around_of q a b c).y → o.y < n
-  y_around t q a b c eo ey = y_in t (rw eo ey)
 
   pub y_rank : y.rank < 4294967295
   unfolding linked
   y_rank = let h = formed-rank n o.y y (both-second (not (eqb o.y 0)) _ y_linked) in omega arith
-
--- a commit that passes its grounds has pz in the table
-module _ (n : ℕ) (t : List ℕ) (q : Path) (a b : Links) (pz z x : Rec) (ep : pz ≡ view n t q.grand) (g : Bool) (e : g ≡ true) where
-  from-two : grounds_two n q a b pz z x ≡ true → q.grand < n
-  unfolding grounds_two
-  from-two h = formed-in n t q.grand (rw ep at (both_first (well_formed n q.grand pz) _ h))
-
-  from-three : grounds_three n q a b pz z x ≡ true → q.grand < n
-  unfolding grounds_three
-  from-three h = from-two (both_first (grounds_two n q a b pz z x) _ h)
-
-  pub pz_in_two : g ≡ grounds_two n q a b pz z x → q.grand < n
-  pz_in_two eg = from-two (rw eg at e)
-
-  pub pz_in_three : g ≡ grounds_three n q a b pz z x → q.grand < n
-  pz_in_three eg = from-three (rw eg at e)
-
-  pub pz_in_four : (i : ℕ) (y : Rec) → g ≡ grounds_four n q a b i pz z x y → q.grand < n
-  unfolding grounds_four
-  pz_in_four i y eg = from-three (both_first (grounds_three n q a b pz z x) _ (rw eg at e))

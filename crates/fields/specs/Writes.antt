@@ -1,5 +1,5 @@
 -- How the code speaks of a table that is lent to be written: what it is before and after.
-use Rattle.std.specs.Prelude.{ℕ, ◌≡◌, List}
+use Rattle.std.specs.Prelude.{◌≡◌, List}
 use Rattle.terms.specs.declared.Outcome.{Outcome}
 use Rattle.fields.specs.declared.slots.Slots.{Slots}
 use Rattle.fields.specs.declared.slots.SlotsMut.{SlotsMut}

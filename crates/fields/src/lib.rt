@@ -1,10 +1,10 @@
-// Records by value: the only crate that knows where a field stands. Reading a slot, the tests of a record, and the three writes.
+// Records by value: the only crate that knows where a field stands. The lent table with its reading and its three writes (slots),
+// and the tests of a record.
 #![tactic(auto)]
 
 ghost use Rattle.std.specs.Prelude.{◌≡◌, ◌+◌, ◌-◌, ◌*◌, ◌/◌, ◌≤◌, ◌<◌, length, ◌&&◌, ◌||◌, true, false, IfOk, IfErr};
-ghost use Rattle.machine.specs.Contract.{Sized};
 ghost use Rattle.machine.specs.Record.{fare_marks, inner_marks, is_link, is_inner, entry_form, in_tree, sentinel, is_leaf, well_formed, linked, level, is_fare, leads, links_of, still, other};
-ghost use Rattle.machine.specs.Table.{view, put, fill, lead, off, length_fits};
+ghost use Rattle.machine.specs.Table.{length_fits};
 ghost use Rattle.machine.specs.Walk.{sought, outranks};
 ghost use Rattle.terms.specs.declared.Refusal.TheVariants.{Length};
 
@@ -38,73 +38,6 @@ pub fn fitting_slots(l: usize) -> Result<u32, Refusal>
         return Err(Refusal::Length);
     }
     Ok(slots_of(l))
-}
-
-// A record by value. Beyond the table it reads as a free one.
-#[tactic(auto, unfolding(machine::specs::Table::view, machine::specs::Table::place, machine::specs::Choice::if_b))]
-pub fn load(t: &[u32], n: u32, s: u32) -> Rec
-    requires { Sized t.now n }
-    ensures { result ≡ view n t.now s }
-{
-    if n <= s {
-        return Rec::default();
-    }
-    let i = s as usize * 6;
-    Rec {
-        state: t[i],
-        number: t[i + 1],
-        price: t[i + 2],
-        rank: t[i + 3],
-        left: t[i + 4],
-        right: t[i + 5],
-    }
-}
-
-// The state alone, for the scans.
-#[tactic(auto, unfolding(machine::specs::Table::view, machine::specs::Table::place, machine::specs::Choice::if_b))]
-pub fn state_at(t: &[u32], n: u32, s: u32) -> u32
-    requires { Sized t.now n × (s < n) }
-    ensures { result ≡ (view n t.now s).state }
-{
-    t[s as usize * 6]
-}
-
-// A whole record is written.
-#[tactic(auto, unfolding(machine::specs::Table::put, machine::specs::Table::place))]
-pub fn put_fill(t: &mut [u32], n: u32, s: u32, r: Rec)
-    requires { Sized t.old n × (s < n) }
-    ensures { t.new ≡ put t.old (fill s r) }
-{
-    let i = s as usize * 6;
-    t[i] = r.state;
-    t[i + 1] = r.number;
-    t[i + 2] = r.price;
-    t[i + 3] = r.rank;
-    t[i + 4] = r.left;
-    t[i + 5] = r.right;
-}
-
-// A record is taken off.
-#[tactic(auto, unfolding(machine::specs::Table::put, machine::specs::Table::place))]
-pub fn put_off(t: &mut [u32], n: u32, s: u32)
-    requires { Sized t.old n × (s < n) }
-    ensures { t.new ≡ put t.old (off s) }
-{
-    t[s as usize * 6] = 2;
-}
-
-// A link now leads to another slot; true is left.
-#[tactic(auto, unfolding(machine::specs::Table::put, machine::specs::Table::place))]
-pub fn put_lead(t: &mut [u32], n: u32, s: u32, left: bool, to: u32)
-    requires { Sized t.old n × (s < n) }
-    ensures { t.new ≡ put t.old (lead s left to) }
-{
-    let i = s as usize * 6;
-    if left {
-        t[i + 4] = to;
-    } else {
-        t[i + 5] = to;
-    }
 }
 
 #[tactic(auto, unfolding(machine::specs::Record::in_tree))]
@@ -248,14 +181,4 @@ pub fn other_link(b: Links, s: u32) -> u32
     ensures { result ≡ other b s }
 {
     if b.left == s { b.right } else { b.left }
-}
-
-// One less, and 0 at 0: a rank, a depth.
-pub fn less_one(d: u32) -> u32
-    ensures { result ≡ d - 1 }
-{
-    if d == 0 {
-        return 0;
-    }
-    d - 1
 }

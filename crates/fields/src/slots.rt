@@ -4,7 +4,6 @@
 ghost use Rattle.std.specs.Prelude.{◌≡◌, ◌+◌, ◌*◌, ◌≤◌, ◌<◌, length};
 ghost use Rattle.machine.specs.Contract.{Sized};
 
-use crate::{load, put_fill, put_lead, put_off, state_at};
 use terms::Rec;
 
 // Lent to be read.
@@ -15,7 +14,7 @@ pub struct Slots<'a> {
     pub ghost sized: { Sized numbers.now n },
 }
 
-// Lent to be written too.
+// Lent to be written too. No one type is over both a `&` and a `&mut`.
 #[derive(Drop)]
 pub struct SlotsMut<'a> {
     pub numbers: &'a mut [u32],
@@ -23,6 +22,7 @@ pub struct SlotsMut<'a> {
     pub ghost sized: { Sized numbers.now n },
 }
 
+#[tactic(auto, unfolding(machine::specs::Table::view, machine::specs::Table::place, machine::specs::Choice::if_b))]
 impl Slots<'_> {
     ghost use Rattle.fields.specs.Writes.{seen};
 
@@ -30,7 +30,19 @@ impl Slots<'_> {
     pub fn at(&self, s: u32) -> Rec
         ensures { result ≡ seen self.now s }
     {
-        load(self.numbers, self.n, s)
+        if self.n <= s {
+            return Rec::default();
+        }
+        let i = s as usize * 6;
+        let t = self.numbers;
+        Rec {
+            state: t[i],
+            number: t[i + 1],
+            price: t[i + 2],
+            rank: t[i + 3],
+            left: t[i + 4],
+            right: t[i + 5],
+        }
     }
 
     // The state alone, for the scans.
@@ -38,11 +50,11 @@ impl Slots<'_> {
         requires { s < self.now.n }
         ensures { result ≡ (seen self.now s).state }
     {
-        state_at(self.numbers, self.n, s)
+        self.numbers[s as usize * 6]
     }
 }
 
-#[tactic(auto, unfolding(machine::specs::Table::puts))]
+#[tactic(auto, unfolding(machine::specs::Table::puts, machine::specs::Table::put, machine::specs::Table::place))]
 impl SlotsMut<'_> {
     ghost use Rattle.std.specs.Prelude.{[], ◌∷◌};
     ghost use Rattle.machine.specs.Table.{fill, off, lead};
@@ -61,7 +73,7 @@ impl SlotsMut<'_> {
     pub fn at(&self, s: u32) -> Rec
         ensures { result ≡ read self.now s }
     {
-        load(self.numbers, self.n, s)
+        self.read().at(s)
     }
 
     // A whole record is written.
@@ -69,7 +81,13 @@ impl SlotsMut<'_> {
         requires { s < self.old.n }
         ensures { Writes self.old self.new (fill s r ∷ []) }
     {
-        put_fill(self.numbers, self.n, s, r);
+        let i = s as usize * 6;
+        self.numbers[i] = r.state;
+        self.numbers[i + 1] = r.number;
+        self.numbers[i + 2] = r.price;
+        self.numbers[i + 3] = r.rank;
+        self.numbers[i + 4] = r.left;
+        self.numbers[i + 5] = r.right;
     }
 
     // A record is taken off.
@@ -77,7 +95,7 @@ impl SlotsMut<'_> {
         requires { s < self.old.n }
         ensures { Writes self.old self.new (off s ∷ []) }
     {
-        put_off(self.numbers, self.n, s);
+        self.numbers[s as usize * 6] = 2;
     }
 
     // A link now leads to another slot; true is left.
@@ -85,6 +103,11 @@ impl SlotsMut<'_> {
         requires { s < self.old.n }
         ensures { Writes self.old self.new (lead s left to ∷ []) }
     {
-        put_lead(self.numbers, self.n, s, left, to);
+        let i = s as usize * 6;
+        if left {
+            self.numbers[i + 4] = to;
+        } else {
+            self.numbers[i + 5] = to;
+        }
     }
 }

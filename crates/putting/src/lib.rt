@@ -1,7 +1,7 @@
 // Put-in: its two readings and its commit.
-#![tactic(auto)]
+#![tactic(auto, unfolding(machine::specs::Contract::acted, machine::specs::Contract::played, machine::specs::Table::puts, machine::specs::Choice::if_b, machine::specs::PutIn::put_grounds, machine::specs::PutIn::put_test, machine::specs::PutIn::leaf_of, machine::specs::PutIn::inner_rank, machine::specs::PutIn::put_turn, machine::specs::PutIn::put_writes, machine::specs::PutIn::put_commit, machine::specs::PutIn::put_limit, machine::specs::PutIn::put_room, machine::specs::Table::slot1, machine::specs::Table::slot2, machine::specs::Table::slot3, machine::specs::PutIn::put_step, machine::specs::PutIn::read_put_parent, machine::specs::PutIn::read_put_leaf))]
 
-ghost use Rattle.std.specs.Prelude.{◌≡◌, [], ◌∷◌, ◌+◌, ◌-◌, ◌*◌, ◌≤◌, ◌<◌, slice_index};
+ghost use Rattle.std.specs.Prelude.{◌≡◌, ◌-◌, ◌<◌, slice_index};
 ghost use Rattle.fields.specs.Writes.{read, Writes, Does};
 ghost use Rattle.room.specs.Found.{AllBelow};
 ghost use Rattle.walk.specs.Stopped.{or_calm};
@@ -13,7 +13,6 @@ use terms::{Answer, Goal, Job, Links, Outcome, Path, Phase, PutStage, Rec, Turn}
 use walk::{busy_in, may_change, or_calm, read_child, read_leading};
 
 // The grounds of 17 that the commit looks at before its test.
-#[tactic(auto, unfolding(machine::specs::PutIn::put_grounds, machine::specs::Choice::if_b))]
 fn put_grounds(n: u32, j: Job, q: Path, a: Links, p: Rec, h: Rec) -> bool
     ensures { result ≡ put_grounds n j q a p h }
 {
@@ -22,7 +21,6 @@ fn put_grounds(n: u32, j: Job, q: Path, a: Links, p: Rec, h: Rec) -> bool
     well_formed(n, q.parent, p) & (is_linked(n, q.here, h) & apart)
 }
 
-#[tactic(auto, unfolding(machine::specs::PutIn::put_test, machine::specs::Choice::if_b))]
 fn put_test(a: Links, b: Links, p: Rec, h: Rec) -> bool
     ensures { result ≡ put_test a b p h }
 {
@@ -30,7 +28,6 @@ fn put_test(a: Links, b: Links, p: Rec, h: Rec) -> bool
 }
 
 // A fresh leaf: a fare's, or a sentinel's.
-#[tactic(auto, unfolding(machine::specs::PutIn::leaf_of, machine::specs::Choice::if_b))]
 fn leaf_of(number: u32, price: u32) -> Rec
     ensures { result ≡ leaf_of number price }
 {
@@ -64,7 +61,6 @@ pub fn inner_of(number: u32, rank: u32, left: u32, right: u32) -> Rec
 }
 
 // The rank of the new inner record.
-#[tactic(auto, unfolding(machine::specs::PutIn::inner_rank, machine::specs::Choice::if_b))]
 fn inner_rank(h: Rec) -> u32
     ensures { result ≡ inner_rank h }
 {
@@ -72,7 +68,6 @@ fn inner_rank(h: Rec) -> u32
 }
 
 // How the task goes on after its put-in.
-#[tactic(auto, unfolding(machine::specs::PutIn::put_turn, machine::specs::Choice::if_b))]
 fn put_turn(j: Job, p: Rec, h: Rec) -> Turn
     ensures { result ≡ put_turn j p h }
 {
@@ -84,7 +79,6 @@ fn put_turn(j: Job, p: Rec, h: Rec) -> Turn
 }
 
 // In the leaf's place a new inner record, whose leaves are the smaller number and the larger.
-#[tactic(auto, unfolding(machine::specs::PutIn::put_writes, machine::specs::Choice::if_b, machine::specs::Table::puts))]
 fn put_writes(t: &mut SlotsMut, j: Job, q: Path, left: bool, h: Rec, slots: [u32; 3])
     requires { AllBelow t.old.n slots × (q.here < t.old.n) × (q.parent < t.old.n) }
     ensures { Writes t.old t.new (put_writes j q left h (slice_index slots 0) (slice_index slots 1) (slice_index slots 2)) }
@@ -104,22 +98,7 @@ fn put_writes(t: &mut SlotsMut, j: Job, q: Path, left: bool, h: Rec, slots: [u32
     t.lead(q.parent, left, x);
 }
 
-// Room, and the writes.
-#[tactic(auto, unfolding(machine::specs::Contract::acted, machine::specs::Contract::played, machine::specs::Table::puts, machine::specs::Choice::if_b, machine::specs::PutIn::put_room, machine::specs::Table::slot1, machine::specs::Table::slot2, machine::specs::Table::slot3))]
-fn put_room(t: &mut SlotsMut, j: Job, q: Path, left: bool, p: Rec, h: Rec) -> Result<Outcome, Turn>
-    requires { (q.here < t.old.n) × (q.parent < t.old.n) }
-    ensures { Does t.old t.new (or_calm result) (put_room (read t.old) t.old.n j q left p h) }
-{
-    let slots = free_slots(&t.read()).ok_or(Turn::Done(Answer::NoRoom))?;
-    put_writes(t, j, q, left, h, slots);
-    Ok(Outcome {
-        turn: put_turn(j, p, h),
-        committed: true,
-    })
-}
-
 // The commit of a put-in: the limit and room are looked at after the test.
-#[tactic(auto, unfolding(machine::specs::Contract::acted, machine::specs::Contract::played, machine::specs::Table::puts, machine::specs::Choice::if_b, machine::specs::PutIn::put_commit, machine::specs::PutIn::put_limit))]
 fn put_commit(
     t: &mut SlotsMut,
     m: u32,
@@ -137,11 +116,15 @@ fn put_commit(
     if 1000000 <= m {
         return Err(Turn::Done(Answer::Limit));
     }
-    put_room(t, j, q, a.left == q.here, p, h)
+    let slots = free_slots(&t.read()).ok_or(Turn::Done(Answer::NoRoom))?;
+    put_writes(t, j, q, a.left == q.here, h, slots);
+    Ok(Outcome {
+        turn: put_turn(j, p, h),
+        committed: true,
+    })
 }
 
 // A step of a put-in that has walked: the reading of the parent, that of the leaf, the commit.
-#[tactic(auto, unfolding(machine::specs::Contract::acted, machine::specs::Contract::played, machine::specs::Table::puts, machine::specs::Choice::if_b, machine::specs::PutIn::put_step, machine::specs::PutIn::read_put_parent, machine::specs::PutIn::read_put_leaf))]
 pub fn put_step(t: &mut SlotsMut, m: u32, j: Job, q: Path, s: PutStage) -> Outcome
     ensures { Does t.old t.new result (put_step (read t.old) t.old.n m j q s) }
 {

@@ -2,11 +2,12 @@
 #![tactic(auto)]
 
 ghost use Rattle.std.specs.Prelude.{◌≡◌, ◌+◌, ◌-◌, ◌*◌, ◌/◌, ◌≤◌, ◌<◌, length, replicate};
-ghost use Rattle.machine.specs.Contract.{Sized, after};
+ghost use Rattle.fields.specs.Writes.{SameTable};
+ghost use Rattle.machine.specs.Contract.{after};
 ghost use Rattle.machine.specs.Calls.{empty_table, reset_of};
 ghost use Rattle.state.specs.Refused.{or_refused};
 
-use fields::{fitting_slots, put_fill};
+use fields::{SlotsMut, fitting_slots};
 use state::{fresh_state, or_refused};
 use terms::{Answer, Out, Rec, Refusal, State};
 
@@ -25,13 +26,13 @@ fn sentinel(left: u32) -> Rec
 
 // The entry and the first sentinel leaf, in an empty table.
 #[tactic(auto, unfolding(machine::specs::Calls::empty_table, machine::specs::Table::puts))]
-fn lay_out(t: &mut [u32], n: u32)
-    requires { Sized t.old n × (8 ≤ n) }
-    ensures { t.new ≡ empty_table (length t.old) }
+fn lay_out(t: &mut SlotsMut)
+    requires { 8 ≤ t.old.n }
+    ensures { (t.new.numbers.now ≡ empty_table (length t.old.numbers.now)) × SameTable t.old t.new }
 {
-    t.fill(0);
-    put_fill(t, n, 0, sentinel(1));
-    put_fill(t, n, 1, sentinel(0));
+    t.numbers.fill(0);
+    t.fill(0, sentinel(1));
+    t.fill(1, sentinel(0));
 }
 
 // The table is laid out and the state is fresh, or 18.
@@ -40,7 +41,7 @@ fn restart(t: &mut [u32], st: State) -> Result<Out, Refusal>
     ensures { after t.new (or_refused st result) ≡ reset_of t.old st }
 {
     let n = fitting_slots(t.len())?;
-    lay_out(t, n);
+    lay_out(&mut SlotsMut { numbers: t, n });
     Ok(Out {
         state: fresh_state(),
         answer: Answer::Accepted,

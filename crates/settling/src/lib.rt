@@ -1,260 +1,195 @@
-// Settling: the readings, the grounds and the test of a commit, and the changes by their rows.
-#![tactic(auto)]
+// Settling: the commits by how many records were read, and the changes by their rows.
+#![tactic(auto, unfolding(machine::specs::Contract::acted, machine::specs::Contract::played, machine::specs::Table::puts, machine::specs::Choice::if_b, machine::specs::Settling::grounds_two, machine::specs::Settling::grounds_three, machine::specs::Settling::grounds_four, machine::specs::Settling::test_two, machine::specs::Settling::test_three, machine::specs::Settling::test_four, machine::specs::Settling::commit_two, machine::specs::Settling::commit_three, machine::specs::Settling::commit_four, machine::specs::Settling::promote_do, machine::specs::Table::slot1, machine::specs::Settling::rotate_do, machine::specs::Table::slot2, machine::specs::Settling::rotate_two_do, machine::specs::Settling::double_do, machine::specs::Table::slot3, machine::specs::Settling::promote_by, machine::specs::Settling::rotate_by, machine::specs::Settling::double_by))]
 
-ghost use Rattle.std.specs.Prelude.{◌≡◌, ◌+◌, ◌-◌, ◌*◌, ◌≤◌, ◌<◌};
+ghost use Rattle.std.specs.Prelude.{◌≡◌, ◌+◌, ◌-◌, ◌<◌, eqb, IfOk};
 ghost use Rattle.terms.specs.declared.LevelRow.TheVariants.{DoubleRotation};
-ghost use Rattle.machine.specs.Contract.{Sized, acted, played};
-ghost use Rattle.machine.specs.Table.{view};
-ghost use Rattle.machine.specs.Settling.{read_grand, read_parent, read_on, grounds_two, grounds_three, grounds_four, test_two, test_three, test_four, promote_do, rotate_do, rotate_two_do, double_do, rotate_by, double_by, promote_by};
+ghost use Rattle.machine.specs.Commit.{Did};
+ghost use Rattle.fields.specs.Writes.{seen, read, Does};
+ghost use Rattle.machine.specs.Rows.{around_of};
+ghost use Rattle.machine.specs.Settling.{grounds_two, grounds_three, grounds_four, test_two, test_three, test_four, commit_two, commit_three, commit_four, promote_do, rotate_do, rotate_two_do, double_do, rotate_by, double_by, promote_by};
 ghost use Rattle.settling.specs.Again.{settled_on};
+ghost use Rattle.walk.specs.Inside.{Inside};
+ghost use Rattle.walk.specs.Stopped.{or_stopped, or_calm};
 
-use fields::{in_tree, is_level, is_linked, is_still, lead_to, less_one, links_of, well_formed};
-use room::{one_slot, three_slots, two_slots};
-use rows::{double_writes, promote_writes, rotate_writes};
+use fields::{Slots, SlotsMut, is_level, is_linked, is_still, lead_to, well_formed};
+use room::free_slots;
+use rows::{Level, Rotation, double_writes, promote_writes, rotate_writes};
 use terms::{
-    Answer, Around, Goal, Job, LevelRow, Links, Outcome, ParentRow, Path, Phase, Rec, SettleStage,
-    Turn,
+    Answer, Goal, Job, LevelRow, Links, Outcome, ParentRow, Phase, Rec, SettleStage, Turn,
 };
-use walk::{busy_in, calm_turn, read_record};
+use walk::{busy_in, calm_turn, may_change};
 
-// The readings.
-#[tactic(auto, unfolding(machine::specs::Settling::read_grand, machine::specs::Choice::if_b))]
-pub fn read_grand(n: u32, j: Job, q: Path, pz: Rec) -> Turn
-    ensures { result ≡ read_grand n j q pz }
-{
-    let good = in_tree(pz) & lead_to(links_of(pz), q.parent);
-    read_record(
-        busy_in(j, Phase::Settling(q, SettleStage::SettleGrand)),
-        well_formed(n, q.grand, pz),
-        good,
-        pz,
-    )
+// What a step that chooses goes by: the row of z and s, and the records of z and x.
+#[derive(Clone, Copy)]
+pub struct Chosen {
+    pub row: ParentRow,
+    pub z: Rec,
+    pub x: Rec,
 }
 
-#[tactic(auto, unfolding(machine::specs::Settling::read_parent, machine::specs::Choice::if_b))]
-pub fn read_parent(n: u32, j: Job, q: Path, a: Links, z: Rec) -> Turn
-    ensures { result ≡ read_parent n j q a z }
-{
-    let good = in_tree(z) & lead_to(links_of(z), q.here);
-    read_record(
-        busy_in(j, Phase::Settling(q, SettleStage::SettleParent(a))),
-        well_formed(n, q.parent, z),
-        good,
-        z,
-    )
-}
-
-// x or y, which the choice has found well formed.
-#[tactic(auto, unfolding(machine::specs::Settling::read_on, machine::specs::Choice::if_b))]
-pub fn read_on(j: Job, q: Path, f: SettleStage, r: Rec) -> Turn
-    ensures { result ≡ read_on j q f r }
-{
-    read_record(busy_in(j, Phase::Settling(q, f)), true, in_tree(r), r)
+// With a rotation to come: the row of x, y and w, and the record of y.
+#[derive(Clone, Copy)]
+pub struct Turning {
+    pub row: LevelRow,
+    pub y: Rec,
 }
 
 // The grounds of 17 before the test, by how many records were read.
-#[tactic(auto, unfolding(machine::specs::Settling::grounds_two, machine::specs::Choice::if_b))]
-pub fn grounds_two(n: u32, q: Path, a: Links, b: Links, pz: Rec, z: Rec, x: Rec) -> bool
-    ensures { result ≡ grounds_two n q a b pz z x }
+fn grounds_two(n: u32, k: Level, pz: Rec, e: Chosen) -> bool
+    ensures { result ≡ grounds_two n k.path k.pz k.z pz e.z e.x }
 {
-    let led = lead_to(a, q.parent) & (lead_to(b, q.here) & is_level(z, x));
+    let q = k.path;
+    let led = lead_to(k.pz, q.parent) & (lead_to(k.z, q.here) & is_level(e.z, e.x));
     well_formed(n, q.grand, pz) & ((q.grand != q.parent) & led)
 }
 
-#[tactic(auto, unfolding(machine::specs::Settling::grounds_three, machine::specs::Choice::if_b))]
-pub fn grounds_three(n: u32, q: Path, a: Links, b: Links, pz: Rec, z: Rec, x: Rec) -> bool
-    ensures { result ≡ grounds_three n q a b pz z x }
+fn grounds_three(n: u32, k: Level, pz: Rec, e: Chosen) -> bool
+    ensures { result ≡ grounds_three n k.path k.pz k.z pz e.z e.x }
 {
-    grounds_two(n, q, a, b, pz, z, x) & ((q.grand != q.here) & (q.parent != q.here))
+    let q = k.path;
+    grounds_two(n, k, pz, e) & ((q.grand != q.here) & (q.parent != q.here))
 }
 
-#[tactic(auto, unfolding(machine::specs::Settling::grounds_four, machine::specs::Choice::if_b))]
-pub fn grounds_four(
-    n: u32,
-    q: Path,
-    a: Links,
-    b: Links,
-    i: u32,
-    pz: Rec,
-    z: Rec,
-    x: Rec,
-    y: Rec,
-) -> bool
-    ensures { result ≡ grounds_four n q a b i pz z x y }
+fn grounds_four(n: u32, k: Level, i: u32, pz: Rec, e: Chosen, y: Rec) -> bool
+    ensures { result ≡ grounds_four n k.path k.pz k.z i pz e.z e.x y }
 {
+    let q = k.path;
     let apart = (q.grand != i) & ((q.parent != i) & (q.here != i));
-    grounds_three(n, q, a, b, pz, z, x) & (is_linked(n, i, y) & apart)
+    grounds_three(n, k, pz, e) & (is_linked(n, i, y) & apart)
 }
 
 // The test, likewise.
-#[tactic(auto, unfolding(machine::specs::Settling::test_two, machine::specs::Choice::if_b))]
-pub fn test_two(a: Links, b: Links, pz: Rec, z: Rec) -> bool
-    ensures { result ≡ test_two a b pz z }
+fn test_two(k: Level, pz: Rec, e: Chosen) -> bool
+    ensures { result ≡ test_two k.pz k.z pz e.z }
 {
-    is_still(pz, a) & is_still(z, b)
+    is_still(pz, k.pz) & is_still(e.z, k.z)
 }
 
-#[tactic(auto, unfolding(machine::specs::Settling::test_three, machine::specs::Choice::if_b))]
-pub fn test_three(a: Links, b: Links, c: Links, pz: Rec, z: Rec, x: Rec) -> bool
-    ensures { result ≡ test_three a b c pz z x }
+fn test_three(k: Level, c: Links, pz: Rec, e: Chosen) -> bool
+    ensures { result ≡ test_three k.pz k.z c pz e.z e.x }
 {
-    test_two(a, b, pz, z) & is_still(x, c)
+    test_two(k, pz, e) & is_still(e.x, c)
 }
 
-#[tactic(auto, unfolding(machine::specs::Settling::test_four, machine::specs::Choice::if_b))]
-pub fn test_four(a: Links, b: Links, c: Links, d: Links, pz: Rec, z: Rec, x: Rec, y: Rec) -> bool
-    ensures { result ≡ test_four a b c d pz z x y }
+fn test_four(k: Level, c: Links, d: Links, pz: Rec, e: Chosen, y: Rec) -> bool
+    ensures { result ≡ test_four k.pz k.z c d pz e.z e.x y }
 {
-    test_three(a, b, c, pz, z, x) & is_still(y, d)
+    test_three(k, c, pz, e) & is_still(y, d)
+}
+
+// What stops a commit with two, three and four records read: pz, z, x and y.
+pub fn commit_two(t: &Slots, k: Level, e: Chosen) -> Result<(), Turn>
+    ensures commits { (d : Did) → commit_two (seen t.now) t.now.n k.job k.path k.pz k.z e.z e.x d ≡ or_stopped d result }
+    ensures pz_stands { IfOk result (λ u. k.path.grand < t.now.n) }
+{
+    let pz = t.at(k.path.grand);
+    let task = k.at(SettleStage::SettleChoose(k.pz, k.z));
+    may_change(task, grounds_two(t.n, k, pz, e), test_two(k, pz, e))
+}
+
+pub fn commit_three(t: &Slots, k: Level, c: Links, e: Chosen) -> Result<(), Turn>
+    ensures commits { (d : Did) → commit_three (seen t.now) t.now.n k.job k.path k.pz k.z c e.z e.x d ≡ or_stopped d result }
+    ensures pz_stands { IfOk result (λ u. k.path.grand < t.now.n) }
+{
+    let pz = t.at(k.path.grand);
+    let task = k.at(SettleStage::SettleRotate(k.pz, k.z, c));
+    may_change(task, grounds_three(t.n, k, pz, e), test_three(k, c, pz, e))
+}
+
+pub fn commit_four(t: &Slots, k: Level, c: Links, d: Links, e: Chosen) -> Result<(), Turn>
+    ensures commits { (f : Did) → commit_four (seen t.now) t.now.n k.job k.path k.pz k.z c d (around_of k.path k.pz k.z c).y e.z e.x f ≡ or_stopped f result }
+    ensures pz_stands { IfOk result (λ u. k.path.grand < t.now.n) }
+{
+    let i = k.around(c).y;
+    let pz = t.at(k.path.grand);
+    let y = t.at(i);
+    let task = k.at(SettleStage::SettleDouble(k.pz, k.z, c, d));
+    may_change(
+        task,
+        grounds_four(t.n, k, i, pz, e, y),
+        test_four(k, c, d, pz, e, y),
+    )
 }
 
 // A commit was made: the task walks again from the entry.
-pub fn settled_on(j: Job) -> Outcome
+fn settled_on(j: Job) -> Outcome
     ensures { result ≡ settled_on j }
 {
     calm_turn(Turn::Next(busy_in(j, Phase::Start(Goal::Settle))))
 }
 
 // Promote.
-#[tactic(auto, unfolding(machine::specs::Contract::acted, machine::specs::Contract::played, machine::specs::Settling::promote_do, machine::specs::Choice::if_b, machine::specs::Table::puts))]
-fn promote_do(t: &mut [u32], n: u32, j: Job, q: Path, high: bool, b: Links, z: Rec) -> Outcome
-    requires { Sized t.old n × (q.parent < n) × (q.grand < n) }
-    ensures { acted t.new result ≡ played t.old (promote_do (view n t.old) n j q high b z) }
+fn promote_do(t: &mut SlotsMut, k: Level, z: Rec) -> Result<Outcome, Turn>
+    requires { (k.path.parent < t.old.n) × (k.path.grand < t.old.n) }
+    ensures { Does t.old t.new (or_calm result) (promote_do (read t.old) t.old.n k.job k.path (eqb k.pz.left k.path.parent) k.z z) }
 {
     if 28 <= z.rank {
-        return calm_turn(Turn::Hurt);
+        return Err(Turn::Hurt);
     }
-    let i = one_slot(t, n);
-    if n <= i {
-        return calm_turn(Turn::Done(Answer::PutUnsettled));
-    }
-    promote_writes(t, n, q, high, b, z, i);
-    settled_on(j)
+    let [i] = free_slots::<1>(&t.read()).ok_or(Turn::Done(Answer::PutUnsettled))?;
+    promote_writes(t, k, z, i);
+    Ok(settled_on(k.job))
 }
 
 // Rotate, with the new ranks of x and z.
-#[tactic(auto, unfolding(machine::specs::Contract::acted, machine::specs::Contract::played, machine::specs::Settling::rotate_do, machine::specs::Choice::if_b, machine::specs::Table::puts))]
-fn rotate_do(
-    t: &mut [u32],
-    n: u32,
-    j: Job,
-    q: Path,
-    o: Around,
-    z: Rec,
-    x: Rec,
-    rx: u32,
-    rz: u32,
-) -> Outcome
-    requires { Sized t.old n × (q.parent < n) × (q.here < n) × (q.grand < n) }
-    ensures { acted t.new result ≡ played t.old (rotate_do (view n t.old) n j q o z x rx rz) }
+fn rotate_do(t: &mut SlotsMut, r: Rotation, rx: u32, rz: u32) -> Result<Outcome, Turn>
+    requires { Inside t.old.n r.path }
+    ensures { Does t.old t.new (or_calm result) (rotate_do (read t.old) t.old.n r.job r.path r.around r.z r.x rx rz) }
 {
-    let s = two_slots(t, n);
-    if n <= s.second {
-        return calm_turn(Turn::Done(Answer::PutUnsettled));
-    }
-    rotate_writes(t, n, q, o, z, x, rx, rz, s.first, s.second);
-    settled_on(j)
+    let slots = free_slots(&t.read()).ok_or(Turn::Done(Answer::PutUnsettled))?;
+    rotate_writes(t, r, rx, rz, slots);
+    Ok(settled_on(r.job))
 }
 
-#[tactic(auto, unfolding(machine::specs::Contract::acted, machine::specs::Contract::played, machine::specs::Settling::rotate_two_do, machine::specs::Choice::if_b, machine::specs::Table::puts))]
-fn rotate_two_do(t: &mut [u32], n: u32, j: Job, q: Path, o: Around, z: Rec, x: Rec) -> Outcome
-    requires { Sized t.old n × (q.parent < n) × (q.here < n) × (q.grand < n) }
-    ensures { acted t.new result ≡ played t.old (rotate_two_do (view n t.old) n j q o z x) }
+fn rotate_two_do(t: &mut SlotsMut, r: Rotation) -> Result<Outcome, Turn>
+    requires { Inside t.old.n r.path }
+    ensures { Does t.old t.new (or_calm result) (rotate_two_do (read t.old) t.old.n r.job r.path r.around r.z r.x) }
 {
-    if 28 <= x.rank {
-        return calm_turn(Turn::Hurt);
+    if 28 <= r.x.rank {
+        Err(Turn::Hurt)
+    } else {
+        rotate_do(t, r, r.x.rank + 1, r.z.rank)
     }
-    rotate_do(t, n, j, q, o, z, x, x.rank + 1, z.rank)
 }
 
-// Double rotation.
-#[tactic(auto, unfolding(machine::specs::Contract::acted, machine::specs::Contract::played, machine::specs::Settling::double_do, machine::specs::Choice::if_b, machine::specs::Table::puts))]
-fn double_do(
-    t: &mut [u32],
-    n: u32,
-    j: Job,
-    q: Path,
-    o: Around,
-    d: Links,
-    z: Rec,
-    x: Rec,
-    y: Rec,
-) -> Outcome
-    requires { Sized t.old n × (y.rank < 4294967295) × (q.parent < n) × (q.here < n) × (q.grand < n) × (o.y < n) }
-    ensures { acted t.new result ≡ played t.old (double_do (view n t.old) n j q o d z x y) }
+// Double rotation; d are y's links.
+fn double_do(t: &mut SlotsMut, r: Rotation, y: Rec, d: Links) -> Result<Outcome, Turn>
+    requires { (y.rank < 4294967295) × Inside t.old.n r.path × (r.around.y < t.old.n) }
+    ensures { Does t.old t.new (or_calm result) (double_do (read t.old) t.old.n r.job r.path r.around d r.z r.x y) }
 {
-    let s = three_slots(t, n);
-    if n <= s.third {
-        return calm_turn(Turn::Done(Answer::PutUnsettled));
-    }
-    double_writes(t, n, q, o, d, z, x, y, s.first, s.second, s.third);
-    settled_on(j)
+    let slots = free_slots(&t.read()).ok_or(Turn::Done(Answer::PutUnsettled))?;
+    double_writes(t, r, y, d, slots);
+    Ok(settled_on(r.job))
 }
 
 // The change by its row.
-#[tactic(auto, unfolding(machine::specs::Contract::acted, machine::specs::Contract::played, machine::specs::Settling::promote_by, machine::specs::Choice::if_b, machine::specs::Table::puts))]
-pub fn promote_by(
-    t: &mut [u32],
-    n: u32,
-    row: ParentRow,
-    j: Job,
-    q: Path,
-    a: Links,
-    b: Links,
-    z: Rec,
-) -> Outcome
-    requires { Sized t.old n × (q.parent < n) × (q.grand < n) }
-    ensures { acted t.new result ≡ played t.old (promote_by row (view n t.old) n j q a b z) }
+pub fn promote_by(t: &mut SlotsMut, k: Level, e: Chosen) -> Result<Outcome, Turn>
+    requires { (k.path.parent < t.old.n) × (k.path.grand < t.old.n) }
+    ensures { Does t.old t.new (or_calm result) (promote_by e.row (read t.old) t.old.n k.job k.path k.pz k.z e.z) }
 {
-    match row {
-        ParentRow::Outranked => calm_turn(Turn::Hurt),
-        ParentRow::Promote => promote_do(t, n, j, q, a.left == q.parent, b, z),
-        ParentRow::Wider => calm_turn(Turn::Hurt),
+    match e.row {
+        ParentRow::Promote => promote_do(t, k, e.z),
+        ParentRow::Outranked | ParentRow::Wider => Err(Turn::Hurt),
     }
 }
 
-#[tactic(auto, unfolding(machine::specs::Contract::acted, machine::specs::Contract::played, machine::specs::Settling::rotate_by, machine::specs::Choice::if_b, machine::specs::Table::puts))]
-pub fn rotate_by(
-    t: &mut [u32],
-    n: u32,
-    row: LevelRow,
-    j: Job,
-    q: Path,
-    o: Around,
-    z: Rec,
-    x: Rec,
-) -> Outcome
-    requires { Sized t.old n × (q.parent < n) × (q.here < n) × (q.grand < n) }
-    ensures { acted t.new result ≡ played t.old (rotate_by row (view n t.old) n j q o z x) }
+pub fn rotate_by(t: &mut SlotsMut, row: LevelRow, r: Rotation) -> Result<Outcome, Turn>
+    requires { Inside t.old.n r.path }
+    ensures { Does t.old t.new (or_calm result) (rotate_by row (read t.old) t.old.n r.job r.path r.around r.z r.x) }
 {
     match row {
-        LevelRow::NoRow => calm_turn(Turn::Hurt),
-        LevelRow::RotateOne => rotate_do(t, n, j, q, o, z, x, x.rank, less_one(z.rank)),
-        LevelRow::RotateTwo => rotate_two_do(t, n, j, q, o, z, x),
-        LevelRow::DoubleRotation => calm_turn(Turn::Hurt),
+        LevelRow::RotateOne => rotate_do(t, r, r.x.rank, r.z.rank.saturating_sub(1)),
+        LevelRow::RotateTwo => rotate_two_do(t, r),
+        LevelRow::NoRow | LevelRow::DoubleRotation => Err(Turn::Hurt),
     }
 }
 
-#[tactic(auto, unfolding(machine::specs::Contract::acted, machine::specs::Contract::played, machine::specs::Settling::double_by, machine::specs::Choice::if_b, machine::specs::Table::puts))]
-pub fn double_by(
-    t: &mut [u32],
-    n: u32,
-    row: LevelRow,
-    j: Job,
-    q: Path,
-    o: Around,
-    d: Links,
-    z: Rec,
-    x: Rec,
-    y: Rec,
-) -> Outcome
-    requires { Sized t.old n × (row ≡ DoubleRotation → y.rank < 4294967295) × (q.parent < n) × (q.here < n) × (q.grand < n) × (o.y < n) }
-    ensures { acted t.new result ≡ played t.old (double_by row (view n t.old) n j q o d z x y) }
+pub fn double_by(t: &mut SlotsMut, r: Rotation, g: Turning, d: Links) -> Result<Outcome, Turn>
+    requires { (g.row ≡ DoubleRotation → g.y.rank < 4294967295) × Inside t.old.n r.path × (r.around.y < t.old.n) }
+    ensures { Does t.old t.new (or_calm result) (double_by g.row (read t.old) t.old.n r.job r.path r.around d r.z r.x g.y) }
 {
-    match row {
-        LevelRow::NoRow => calm_turn(Turn::Hurt),
-        LevelRow::RotateOne => rotate_by(t, n, LevelRow::RotateOne, j, q, o, z, x),
-        LevelRow::RotateTwo => rotate_by(t, n, LevelRow::RotateTwo, j, q, o, z, x),
-        LevelRow::DoubleRotation => double_do(t, n, j, q, o, d, z, x, y),
+    match g.row {
+        LevelRow::DoubleRotation => double_do(t, r, g.y, d),
+        _ => rotate_by(t, g.row, r),
     }
 }

@@ -1,9 +1,9 @@
 // Take-out: its four readings and its commit.
-#![tactic(auto)]
+#![tactic(auto, unfolding(machine::specs::Contract::acted, machine::specs::Contract::played, machine::specs::Table::puts, machine::specs::Choice::if_b, machine::specs::TakeOut::take_apart, machine::specs::TakeOut::take_leaf, machine::specs::TakeOut::take_grounds, machine::specs::TakeOut::take_test, machine::specs::TakeOut::take_commit, machine::specs::TakeOut::take_room, machine::specs::Table::slot1, machine::specs::TakeOut::take_step, machine::specs::TakeOut::read_take_grand, machine::specs::TakeOut::read_take_parent, machine::specs::TakeOut::read_take_left, machine::specs::TakeOut::read_take_right))]
 
-ghost use Rattle.std.specs.Prelude.{◌≡◌, [], ◌∷◌, ◌+◌, ◌-◌, ◌*◌, ◌≤◌, ◌<◌};
+ghost use Rattle.std.specs.Prelude.{◌≡◌, ◌-◌, ◌<◌};
 ghost use Rattle.fields.specs.Writes.{read, Writes, Does};
-ghost use Rattle.machine.specs.TakeOut.{take_apart, take_leaf, take_grounds, take_test, take_writes, take_room, take_commit, take_step};
+ghost use Rattle.machine.specs.TakeOut.{take_apart, take_leaf, take_grounds, take_test, take_writes, take_commit, take_step};
 ghost use Rattle.walk.specs.Inside.{Inside};
 ghost use Rattle.walk.specs.Stopped.{or_calm};
 
@@ -22,7 +22,6 @@ struct Family<T> {
 }
 
 // No two of the records read are one and the same.
-#[tactic(auto, unfolding(machine::specs::TakeOut::take_apart, machine::specs::Choice::if_b))]
 fn take_apart(q: Path, b: Links) -> bool
     ensures { result ≡ take_apart q b }
 {
@@ -31,7 +30,6 @@ fn take_apart(q: Path, b: Links) -> bool
 }
 
 // Whether a record is a leaf of the task's number.
-#[tactic(auto, unfolding(machine::specs::TakeOut::take_leaf, machine::specs::Choice::if_b))]
 fn take_leaf(j: Job, h: Rec) -> bool
     ensures { result ≡ take_leaf j h }
 {
@@ -39,7 +37,6 @@ fn take_leaf(j: Job, h: Rec) -> bool
 }
 
 // The grounds of 17 that the commit looks at before its test.
-#[tactic(auto, unfolding(machine::specs::TakeOut::take_grounds, machine::specs::Choice::if_b))]
 fn take_grounds(n: u32, j: Job, q: Path, noted: Family<Links>, now: Family<Rec>) -> bool
     ensures { result ≡ take_grounds n j q noted.grand noted.parent now.grand now.parent now.left now.right }
 {
@@ -55,7 +52,6 @@ fn take_grounds(n: u32, j: Job, q: Path, noted: Family<Links>, now: Family<Rec>)
     well_formed(n, q.grand, now.grand) & (well_formed(n, q.parent, now.parent) & children)
 }
 
-#[tactic(auto, unfolding(machine::specs::TakeOut::take_test, machine::specs::Choice::if_b))]
 fn take_test(noted: Family<Links>, now: Family<Rec>) -> bool
     ensures { result ≡ take_test noted.grand noted.parent noted.left noted.right now.grand now.parent now.left now.right }
 {
@@ -64,7 +60,6 @@ fn take_test(noted: Family<Links>, now: Family<Rec>) -> bool
 }
 
 // The five writes of a take-out: s is the sibling's record, x the slot of its copy.
-#[tactic(auto, unfolding(machine::specs::Table::puts))]
 fn take_writes(t: &mut SlotsMut, q: Path, left: bool, s: Rec, sibling: u32, x: u32)
     requires { (x < t.old.n) × (sibling < t.old.n) × Inside t.old.n q }
     ensures { Writes t.old t.new (take_writes q left s sibling x) }
@@ -76,19 +71,7 @@ fn take_writes(t: &mut SlotsMut, q: Path, left: bool, s: Rec, sibling: u32, x: u
     t.lead(q.grand, left, x);
 }
 
-// Room, and the writes.
-#[tactic(auto, unfolding(machine::specs::Contract::acted, machine::specs::Contract::played, machine::specs::TakeOut::take_room, machine::specs::Choice::if_b, machine::specs::Table::puts, machine::specs::Table::slot1))]
-fn take_room(t: &mut SlotsMut, q: Path, left: bool, s: Rec, sibling: u32) -> Result<Outcome, Turn>
-    requires { (sibling < t.old.n) × Inside t.old.n q }
-    ensures { Does t.old t.new (or_calm result) (take_room (read t.old) t.old.n q left s sibling) }
-{
-    let [x] = free_slots::<1>(&t.read()).ok_or(Turn::Done(Answer::NoRoom))?;
-    take_writes(t, q, left, s, sibling, x);
-    Ok(calm_turn(Turn::Done(Answer::TakenOut)))
-}
-
 // The commit of a take-out.
-#[tactic(auto, unfolding(machine::specs::Contract::acted, machine::specs::Contract::played, machine::specs::TakeOut::take_commit, machine::specs::Choice::if_b, machine::specs::Table::puts))]
 fn take_commit(t: &mut SlotsMut, j: Job, q: Path, noted: Family<Links>) -> Result<Outcome, Turn>
     ensures { Does t.old t.new (or_calm result) (take_commit (read t.old) t.old.n j q noted.grand noted.parent noted.left noted.right) }
 {
@@ -105,13 +88,14 @@ fn take_commit(t: &mut SlotsMut, j: Job, q: Path, noted: Family<Links>) -> Resul
         take_grounds(t.n, j, q, noted, now),
         take_test(noted, now),
     )?;
+    let [x] = free_slots::<1>(&t.read()).ok_or(Turn::Done(Answer::NoRoom))?;
     let sibling = other_link(noted.parent, q.here);
     let copied = t.at(sibling);
-    take_room(t, q, noted.grand.left == q.parent, copied, sibling)
+    take_writes(t, q, noted.grand.left == q.parent, copied, sibling, x);
+    Ok(calm_turn(Turn::Done(Answer::TakenOut)))
 }
 
 // A step of a take-out that has walked: the four readings, then the commit.
-#[tactic(auto, unfolding(machine::specs::Contract::acted, machine::specs::Contract::played, machine::specs::TakeOut::take_step, machine::specs::TakeOut::read_take_grand, machine::specs::TakeOut::read_take_parent, machine::specs::TakeOut::read_take_left, machine::specs::TakeOut::read_take_right, machine::specs::Choice::if_b, machine::specs::Table::puts))]
 pub fn take_step(t: &mut SlotsMut, j: Job, q: Path, s: TakeStage) -> Outcome
     ensures { Does t.old t.new result (take_step (read t.old) t.old.n j q s) }
 {

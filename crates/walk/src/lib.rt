@@ -1,7 +1,7 @@
 // The walk, and a reading: decisions on records by value, and the functions that load the records that they name.
-#![tactic(auto)]
+#![tactic(auto, unfolding(machine::specs::Choice::if_b, crate::specs::Arrived::turn_at, machine::specs::Walk::at_leaf, machine::specs::Walk::serve_arrival, machine::specs::Walk::settle_arrival, machine::specs::Walk::arrival, machine::specs::Walk::walk_to, machine::specs::Walk::walk_from, crate::specs::Arrived::left_to, machine::specs::Walk::walk_on, machine::specs::Commit::reading, machine::specs::Commit::commit_if))]
 
-ghost use Rattle.std.specs.Prelude.{◌≡◌, ◌+◌, ◌-◌, ◌*◌, ◌≤◌, ◌<◌, true, IfOk};
+ghost use Rattle.std.specs.Prelude.{◌≡◌, ◌-◌, ◌<◌, true, IfOk};
 ghost use Rattle.terms.specs.Task.{busy};
 ghost use Rattle.fields.specs.Writes.{seen};
 ghost use Rattle.machine.specs.Walk.{at_leaf, serve_arrival, settle_arrival, arrival, walk_to, walk_from, walk_on};
@@ -59,7 +59,6 @@ pub struct Gone {
 }
 
 // A leaf is arrived at.
-#[tactic(auto, unfolding(crate::specs::Arrived::turn_at, machine::specs::Walk::at_leaf, machine::specs::Choice::if_b))]
 fn at_leaf(o: Operation, j: Job, q: Path, r: Rec) -> Arrival
     ensures { turn_at (Serve o) j q result ≡ at_leaf o j q r }
 {
@@ -73,7 +72,6 @@ fn at_leaf(o: Operation, j: Job, q: Path, r: Rec) -> Arrival
 }
 
 // A record h is arrived at, for an operation.
-#[tactic(auto, unfolding(crate::specs::Arrived::turn_at, machine::specs::Walk::serve_arrival, machine::specs::Choice::if_b))]
 fn serve_arrival(o: Operation, j: Job, q: Path, h: Rec) -> Arrival
     ensures { turn_at (Serve o) j q result ≡ serve_arrival o j q h }
 {
@@ -85,7 +83,6 @@ fn serve_arrival(o: Operation, j: Job, q: Path, h: Rec) -> Arrival
 }
 
 // A record h is arrived at below p, on a walk that settles.
-#[tactic(auto, unfolding(crate::specs::Arrived::turn_at, machine::specs::Walk::settle_arrival, machine::specs::Choice::if_b))]
 fn settle_arrival(j: Job, q: Path, p: Rec, h: Rec) -> Arrival
     ensures { turn_at Settle j q result ≡ settle_arrival j q p h }
 {
@@ -101,7 +98,6 @@ fn settle_arrival(j: Job, q: Path, p: Rec, h: Rec) -> Arrival
 }
 
 // The arrival rule.
-#[tactic(auto, unfolding(crate::specs::Arrived::turn_at, machine::specs::Walk::arrival, machine::specs::Choice::if_b))]
 fn arrive(g: Goal, j: Job, q: Path, p: Rec, h: Rec) -> Arrival
     ensures { turn_at g j q result ≡ arrival g j q p h }
 {
@@ -112,7 +108,6 @@ fn arrive(g: Goal, j: Job, q: Path, p: Rec, h: Rec) -> Arrival
 }
 
 // The record arrived at is read; p is the one that the walk left.
-#[tactic(auto, unfolding(crate::specs::Arrived::turn_at, machine::specs::Walk::walk_to, machine::specs::Choice::if_b))]
 fn walk_to(t: &Slots, g: Goal, j: Job, q: Path, p: Rec) -> Arrival
     requires { p ≡ seen t.now q.parent }
     ensures { turn_at g j q result ≡ walk_to (seen t.now) t.now.n g j q }
@@ -126,7 +121,6 @@ fn walk_to(t: &Slots, g: Goal, j: Job, q: Path, p: Rec) -> Arrival
 }
 
 // One step of a walk: it leaves slot s, whose parent is the slot grand.
-#[tactic(auto, unfolding(crate::specs::Arrived::turn_at, machine::specs::Walk::walk_from, crate::specs::Arrived::left_to, machine::specs::Choice::if_b))]
 pub fn walk_out(t: &Slots, g: Goal, j: Job, grand: u32, s: u32) -> Gone
     ensures { (turn_at g j (record { grand = grand; parent = s; here = result.to }) result.at ≡ walk_from (seen t.now) t.now.n g j grand s) × (result.to ≡ left_to (seen t.now) t.now.n j.number s) }
 {
@@ -150,7 +144,6 @@ pub fn walk_out(t: &Slots, g: Goal, j: Job, grand: u32, s: u32) -> Gone
 }
 
 // The turn of a task that walked to q.
-#[tactic(auto, unfolding(crate::specs::Arrived::turn_at, machine::specs::Choice::if_b))]
 fn turn_at(g: Goal, j: Job, q: Path, a: Arrival) -> Turn
     ensures { result ≡ turn_at g j q a }
 {
@@ -165,7 +158,6 @@ fn turn_at(g: Goal, j: Job, q: Path, a: Arrival) -> Turn
 }
 
 // The same step as a turn of its task.
-#[tactic(auto, unfolding(machine::specs::Walk::walk_from, machine::specs::Choice::if_b))]
 pub fn walk_from(t: &Slots, g: Goal, j: Job, grand: u32, s: u32) -> Turn
     ensures { result ≡ walk_from (seen t.now) t.now.n g j grand s }
 {
@@ -179,7 +171,6 @@ pub fn walk_from(t: &Slots, g: Goal, j: Job, grand: u32, s: u32) -> Turn
 }
 
 // A walk that goes on from where the task stands.
-#[tactic(auto, unfolding(machine::specs::Walk::walk_on, machine::specs::Choice::if_b))]
 pub fn walk_on(t: &Slots, g: Goal, j: Job, q: Path) -> Turn
     ensures { result ≡ walk_on (seen t.now) t.now.n g j q }
 {
@@ -191,7 +182,6 @@ pub fn walk_on(t: &Slots, g: Goal, j: Job, q: Path) -> Turn
 }
 
 // A reading: its links are noted, or the walk starts again.
-#[tactic(auto, unfolding(machine::specs::Commit::reading, machine::specs::Choice::if_b))]
 pub fn read_record(k: Task, formed: bool, good: bool, r: Rec) -> Turn
     ensures { result ≡ reading k formed good r }
 {
@@ -222,7 +212,6 @@ pub fn read_child(t: &Slots, k: Task, s: u32) -> Outcome
 }
 
 // What stops a commit before its change: a ground of 17, or a record that changed since its reading.
-#[tactic(auto, unfolding(machine::specs::Commit::commit_if, machine::specs::Choice::if_b))]
 pub fn may_change(k: Task, grounds: bool, test: bool) -> Result<(), Turn>
     ensures { ((d : Did) → commit_if k grounds test d ≡ or_stopped d result) × IfOk result (λ u. grounds ≡ true) }
 {

@@ -1,22 +1,17 @@
-use Rattle.std.proofs.Common.{◌∙◌, refl, sym, ap, not, arith}
-use Rattle.callfile.proofs.Rows.{run_ends, run_more, run_none, run_on}
+use Rattle.std.proofs.Common.{◌∙◌, ◌-◌, ◌+◌, ◌≡◌, sym, suc, arith}
+use Rattle.callfile.proofs.Rows.{goes, run_none, stops}
 use Rattle.callfile.proofs.run.Goals as goal
 
-pub returns-then-count-eq0 : goal.returns-then-count-eq0
-returns-then-count-eq0 c = run_none _ _ _ _ c.if-count-eq0.true
+pub loop-preserved : goal.loop-preserved
+loop-preserved c =
+    let l : c.args.count - c.loop.counter ≡ suc (c.args.count - (c.loop.counter + 1)) = omega arith in
+    let on = goes _ _ _ _ _ c.step-o.ensures _ c.from.ensures _ _ l c.if-from-ne0.false in
+    (on.0, c.loop.invariant.1 ∙ on.1)
 
-pub loop-o-init : goal.loop-o-init
-loop-o-init c = (omega arith, omega arith, refl, refl)
+pub returns-after-loop : goal.returns-after-loop
+returns-after-loop c = run_none _ _ _ _ (omega arith) c.loop.invariant.0 ∙ sym c.loop.invariant.1
 
-pub returns-then-not-on : goal.returns-then-not-on
-returns-then-not-on c =
-    run_ends _ _ _ _ _ c.step-o.ensures _ c.number_of.ensures _ c.loop-o.invariant.0 (ap not c.if-not-on.true) ∙ sym c.loop-o.invariant.2
-
-pub loop-o-preserved : goal.loop-o-preserved
-loop-o-preserved c =
-    let m = run_more _ _ _ _ _ c.step-o.ensures _ c.number_of.ensures _ c.loop-o.invariant.0 (ap not c.if-not-on.false) in (
-      omega arith,
-      omega arith,
-      c.loop-o.invariant.2 ∙ run_on _ _ _ _ _ c.step-o.ensures _ c.number_of.ensures _ c.loop-o.invariant.0 (ap not c.if-not-on.false),
-      c.step-o.auto.t ∙ c.loop-o.invariant.3,
-    )
+pub returns-then-from-ne0 : goal.returns-then-from-ne0
+returns-then-from-ne0 c =
+    let l : c.args.count - c.loop.counter ≡ suc (c.args.count - (c.loop.counter + 1)) = omega arith in
+    stops _ _ _ _ _ c.step-o.ensures _ c.from.ensures _ _ l c.if-from-ne0.true ∙ sym c.loop.invariant.1

@@ -10,7 +10,9 @@ turn_out-requires c =
     let e = sym c.is_sound.ensures ∙ both_first _ _ c.if-not-is_sound-job_fits.false in
     (search rules, m_small _ e, u_small _ e)
 
-pub returns-else-not-is_sound-job_fits : goal.returns-else-not-is_sound-job_fits
-returns-else-not-is_sound-job_fits c =
-    goes_row _ _ _ _ _ _ c.in-Busy.is _ c.is_sound.ensures _ c.job_fits.ensures c.if-not-is_sound-job_fits.false
-    _ c.requires.1 _ _ c.phase_step-r.ensures _ c.turn_out.ensures
+pub returns : goal.returns
+returns c = (
+  goes_row _ _ _ _ _ _ c.in-Busy.is _ c.is_sound.ensures _ c.job_fits.ensures c.if-not-is_sound-job_fits.false
+      _ c.requires.0 _ _ c.phase_step-r.ensures.0 _ c.turn_out.ensures,
+  c.phase_step-r.ensures.1,
+)
