@@ -321,7 +321,7 @@ fn own_by(w: &[u32; 15], f: u32, k: u32) -> bool
     ensures { result ≡ own_by f k w.now }
 {
     match f {
-        0 => clear_from::<1>(w),
+        0 => clear_from::<0>(w),
         1 => own_goal(k) & clear_from::<4>(w),
         2 => own_goal(k) & clear_from::<7>(w),
         3 => k <= 2 && own_noted(w, k),

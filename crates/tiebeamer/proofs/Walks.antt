@@ -1,10 +1,12 @@
 -- A step of a task that walks, by its first seven numbers.
 use mathlib.Core.Path.{◌≡◌, refl, sym, ap, ◌∙◌}
 use mathlib.Core.Bool.{Bool, true, false, ◌&&◌}
-use mathlib.Core.List.{List}
+use mathlib.Core.List.{List, ◌++◌}
 use Prim.Native.Nat.{ℕ, ◌+◌, ◌*◌}
 use native.Mathlib.Nat.{add-zero}
 use lib.Dec.{eqb}
+use lib.ListN.{get_or}
+use Rattle.std.proofs.lemmas.List.{get_or-drop}
 use Rattle.std.specs.Prelude.{Some, None, Ok, Err}
 use Rattle.std.specs.declared.option.Option.{Option}
 use Rattle.std.specs.declared.result.Result.{Result}
@@ -40,10 +42,11 @@ use Rattle.walk.specs.declared.Arrival.{Arrival}
 use Rattle.walk.specs.declared.Arrival.TheVariants.{Lost, On, Puts, Takes, Settles, Ends}
 use Rattle.walk.specs.Arrived.{turn_at}
 use Rattle.statecode.specs.declared.Walker.{Walker}
-use Rattle.statecode.specs.Code.{no_links, places, phase_row, goal_number, state_by, is_state}
+use Rattle.statecode.specs.Code.{no_links, places, phase_row, work_row, goal_number, state_by, is_state}
 use Rattle.statecode.specs.Own.{storing}
 use Rattle.statecode.specs.Walking.{walker_of, no_notes, put_first}
-use Rattle.statecode.proofs.Walking.{walker-stored, walker-own}
+use Rattle.statecode.proofs.Own.{eight, later, ends}
+use Rattle.statecode.proofs.Walking.{row_at, walker-stored, walker-own}
 use Rattle.tiebeamer.specs.Numbers.{out_by, left_by, Walks}
 use Rattle.stepping.proofs.Carrying.{goes_row}
 use Rattle.tiebeamer.proofs.ByNumbers.{hurt-turn, next-turn, damaged_row}
@@ -76,6 +79,14 @@ module _ (w : List ℕ) (i : ℕ) (k : Walker) (walks : Walks w i k) where
   no-notes : no_notes does ≡ true
   unfolding no_notes
   no-notes = on_way does k walks.2 (no_notes does ≡ true) (λ e p. rw e refl) (λ q e p. rw e refl)
+
+  -- its place 3 is the number of its goal
+  pub detail_is : get_or w (15 * i + 3) 0 ≡ goal_number k.goal
+  detail_is =
+      let rest : List ℕ = later (state_by w) i (eight w) walks.1 ++ ends (state_by w) i (eight w) walks.1 in
+      sym (get_or-drop (15 * i) w 3 0)
+      ∙ ap (λ (z : List ℕ). get_or z 3 0) (row_at w i walks.0 walks.1)
+      ∙ on_way does k walks.2 (get_or (work_row does ++ rest) 3 0 ≡ goal_number k.goal) (λ e p. rw e refl) (λ q e p. rw e refl)
 
   -- the walker's next phase is stored
   module _ (f x : ℕ) (q : Path) (p : Phase) (er : places f k.job x q no_links no_links no_links no_links ≡ phase_row k.job p) (last : List ℕ) (el : last ≡ put_first w (15 * i) f k.job x q) where

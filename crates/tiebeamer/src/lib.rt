@@ -225,14 +225,17 @@ fn left_by(k: Walker) -> Result<(u32, u32), Refusal>
     }
 }
 
-// What a walker came to is stored in its numbers; its answer.
+// What a walker came to is stored in its numbers; its answer. While it goes on, the number of its goal stays the one that stands there.
 fn store_arrival(w: &mut [u32; 122], i: usize, k: Walker, q: Path, a: Arrival) -> Answer
     requires { Walks w.old i k × (get_or w.old 120 0 ≤ 1000000) × (get_or w.old 121 0 ≤ 1000000) }
     ensures { (out_by w.new result ≡ turned_out (state_by w.old) i (turn_at k.goal k.job q a) false) × (is_state w.new ≡ true) }
 {
     match a {
         Arrival::Lost => return Answer::Damaged,
-        Arrival::On => put_first(w, i, 2, k.job, goal_number(k.goal), q),
+        Arrival::On => {
+            let goal = w[15 * i + 3];
+            put_first(w, i, 2, k.job, goal, q);
+        }
         Arrival::Puts => put_first(w, i, 3, k.job, 0, q),
         Arrival::Takes => put_first(w, i, 4, k.job, 0, q),
         Arrival::Settles => put_first(w, i, 5, k.job, 0, q),

@@ -1,4 +1,4 @@
-use Rattle.tiebeamer.proofs.Walks.{lost-stored, on-stored, puts-stored, takes_stored, settles_stored, ends-stored}
+use Rattle.tiebeamer.proofs.Walks.{detail_is, lost-stored, on-stored, puts-stored, takes_stored, settles_stored, ends-stored}
 use Rattle.tiebeamer.proofs.store_arrival.Goals as goal
 
 pub store_turn-requires : goal.store_turn-requires
@@ -8,7 +8,7 @@ pub returns-in-Lost : goal.returns-in-Lost
 returns-in-Lost c = lost-stored c.args.w.now c.args.i c.args.k c.requires.0 c.args.q c.args.a c.in-Lost.is
 
 pub returns-in-On : goal.returns-in-On
-returns-in-On c = on-stored c.args.w.now c.args.i c.args.k c.requires.0 c.args.q c.args.a c.in-On.is _ c.goal_number.ensures _ c.put_first.ensures
+returns-in-On c = on-stored c.args.w.now c.args.i c.args.k c.requires.0 c.args.q c.args.a c.in-On.is _ (detail_is c.args.w.now c.args.i c.args.k c.requires.0) _ c.put_first.ensures
 
 pub returns-in-Puts : goal.returns-in-Puts
 returns-in-Puts c = puts-stored c.args.w.now c.args.i c.args.k c.requires.0 c.args.q c.args.a c.in-Puts.is _ c.put_first-in-Puts.ensures
