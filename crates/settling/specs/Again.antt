@@ -1,4 +1,4 @@
--- What is handed back where a settling task walks again from the entry: after a commit, and after a test that failed.
+-- What is handed back after a settling commit: the task walks again from the entry.
 use Rattle.std.specs.Prelude.{false}
 use Rattle.terms.specs.declared.Job.{Job}
 use Rattle.terms.specs.declared.Goal.TheVariants.{Settle}
