@@ -119,6 +119,24 @@ module _ (st : State) (h : length st.tasks ≡ 8) where
   unfolding decode is_state if_b
   decode-encode = simp (state-back, same_self (encode st))
 
+-- numbers decode as what they read as where they are a state
+pub state_some : (w : List ℕ) → is_state w ≡ true → decode w ≡ Some (state_by w)
+unfolding decode if_b
+state_some w e = rw e refl
+
+state-length : (w : List ℕ) → is_state w ≡ true → length w ≡ 122
+unfolding is_state state_by tasks_by
+state-length w e = sym (ap length (same-equal (encode (state_by w)) w e)) ∙ length_encode (state_by w) refl
+
+pub state_none : (w : List ℕ) → is_state w ≡ false → decode w ≡ None
+unfolding decode if_b
+state_none w e = rw e refl
+
+-- numbers of another length decode as none
+pub other_decoded : (w : List ℕ) → (length w ≡ 122 → ⊥) → decode w ≡ None
+unfolding decode if_b
+other_decoded w h = elim (is_state w) as (λ b. is_state w ≡ b → if_b b (Some (state_by w)) None ≡ None) [ true ↦ (λ e. absurd (h (state-length w e))) | false ↦ (λ e. refl) ] refl
+
 -- what reads as a state is written so, and has eight tasks
 module _ (w : List ℕ) (st : State) where
   read_is : decode w ≡ Some st → (is_state w ≡ true) × (state_by w ≡ st)

@@ -21,7 +21,6 @@ use Rattle.machine.specs.State.{one, settling, count_open, sound, task_at}
 use Rattle.machine.proofs.Count.{settling_counted}
 use Rattle.statecode.specs.Code.{work_row, rows, encode, phase_by, put_by, take_by, settle_by, task_by, tasks_by, state_by, same_numbers, is_state}
 use Rattle.statecode.specs.Own.{own_row, own_rows, storing}
-use Rattle.statecode.specs.Walking.{walker_by}
 use Rattle.statecode.proofs.Writing.{rows_append}
 use Rattle.statecode.proofs.Same.{same_self, same-equal}
 use Rattle.statecode.proofs.Inverse.{length_row, length_rows, length_encode, state-back, state-own}
@@ -284,18 +283,6 @@ all_own w h = rows_own 8 w ∙ sym (own-all w h)
 pub task_part : (w : List ℕ) (i : ℕ) → i < 8 → task_by (take 15 (drop (15 * i) w)) ≡ task_at (state_by w) i
 unfolding state_by
 task_part w i h = task_first (drop (15 * i) w) ∙ sym (task_alone 8 w i h)
-
-pub walker_part : (w : List ℕ) (i : ℕ) → walker_by (take 15 (drop (15 * i) w)) ≡ walker_by (drop (15 * i) w)
-walker_part w i =
-    let v : List ℕ = drop (15 * i) w in
-    simp (
-      get_or-take 15 v 0 0 (lit< tt),
-      get_or-take 15 v 1 0 (lit< tt),
-      get_or-take 15 v 2 0 (lit< tt),
-      get_or-take 15 v 3 0 (lit< tt),
-      get_or-take 15 v 5 0 (lit< tt),
-      get_or-take 15 v 6 0 (lit< tt),
-    )
 
 -- the tasks that settle, counted part by part
 pub rows_settling : (w : List ℕ) → count_by (λ r. work_settles (task_by r).work) (first_chunks 15 8 w) ≡ settling (state_by w).tasks 8

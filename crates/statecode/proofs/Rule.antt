@@ -87,8 +87,8 @@ module _ (w : List ℕ) (h : 15 ≤ length w) where
   unfolding clear_from
   clears from n e = let z : 15 - from ≡ n = omega arith in rw z (clear_all w from n (omega arith))
 
-  c1 : clear_from 1 w ≡ clear_steps 1 14 w
-  c1 = clears 1 14 refl
+  c0 : clear_from 0 w ≡ clear_steps 0 15 w
+  c0 = clears 0 15 refl
 
   c4 : clear_from 4 w ≡ clear_steps 4 11 w
   c4 = clears 4 11 refl
@@ -107,7 +107,7 @@ module _ (w : List ℕ) (h : 15 ≤ length w) where
 
   at-idle : f ≡ 0 → Own
   unfolding up_to task_by if_b own_by clear_steps
-  at-idle e = simp (e, c1)
+  at-idle e = simp (e, c0)
 
   at-start : f ≡ 1 → Own
   unfolding up_to task_by phase_by if_b own_by own_goal clear_steps

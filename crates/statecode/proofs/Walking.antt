@@ -16,9 +16,8 @@ use Rattle.terms.specs.declared.State.{State}
 use Rattle.terms.specs.Task.{idle_task}
 use Rattle.statecode.specs.Code.{no_links, places, work_row, encode, task_by, state_by, is_state}
 use Rattle.machine.specs.State.{task_at}
-use Rattle.statecode.specs.declared.Walker.{Walker}
 use Rattle.statecode.specs.Own.{storing}
-use Rattle.statecode.specs.Walking.{walker_by, no_notes, put_first}
+use Rattle.statecode.specs.Walking.{no_notes, put_first}
 use Rattle.statecode.proofs.Own.{own-encode, eight, task_alone, front, own, later, ends, length_front, whole, set_whole, as_stored, own-stored}
 
 -- seven numbers behind a front
@@ -43,9 +42,6 @@ first-row (Busy i (Settling p s)) e l f j k q = absurd (let r : ◌≡◌ {A = �
 pub task_row : (w : List ℕ) (i : ℕ) → i < 8 → task_at (state_by w) i ≡ task_by (drop (15 * i) w)
 unfolding state_by
 task_row w i h = task_alone 8 w i h
-
-pub phase_row_lem : (w : List ℕ) (i : ℕ) (k : Walker) → k ≡ walker_by (drop (15 * i) w) → k.phase ≡ get_or (drop (15 * i) w) 0 0
-phase_row_lem w i k e = ap (λ (z : Walker). z.phase) e
 
 module _ (w : List ℕ) (i : ℕ) (e : is_state w ≡ true) (h : i < 8) where
   abbrev st : State

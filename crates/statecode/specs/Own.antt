@@ -28,7 +28,7 @@ own_noted k w =
 -- the same as own_row, by phase and count: "A place that a phase does not use is 0"
 unfoldable pub own_by : ℕ → ℕ → List ℕ → Bool
 own_by f k w =
-    if_b (eqb f 0) (clear_from 1 w)
+    if_b (eqb f 0) (clear_from 0 w)
     (if_b (eqb f 1) (own_goal k && clear_from 4 w)
     (if_b (eqb f 2) (own_goal k && clear_from 7 w)
     (if_b (eqb f 3) (leb k 2 && own_noted k w)

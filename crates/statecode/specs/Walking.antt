@@ -1,5 +1,6 @@
 -- A task on its way, read and written without its notes: the first seven numbers of its fifteen.
-use Rattle.std.specs.Prelude.{ℕ, Bool, true, false, List, [], ◌∷◌, get_or}
+use Rattle.std.specs.Prelude.{ℕ, Bool, true, false, List, [], ◌∷◌, Some, None}
+use Rattle.std.specs.declared.option.Option.{Option}
 use Rattle.std.proofs.Math.Seq.{paste}
 use Rattle.terms.specs.declared.Path.{Path}
 use Rattle.terms.specs.declared.Job.{Job}
@@ -7,11 +8,15 @@ use Rattle.terms.specs.declared.Phase.TheVariants.{Start, Walk, PuttingIn, Takin
 use Rattle.terms.specs.declared.Work.{Work}
 use Rattle.terms.specs.declared.Work.TheVariants.{Idle, Busy}
 use Rattle.statecode.specs.declared.Walker.{Walker}
-use Rattle.statecode.specs.Code.{job_by}
 
--- what the numbers of a task say of its walk
-abbrev pub walker_by : List ℕ → Walker
-walker_by w = record { phase = get_or w 0 0; job = job_by w; detail = get_or w 3 0; parent = get_or w 5 0; here = get_or w 6 0 }
+-- the task as a walker, if it walks
+abbrev pub walker_of : Work → Option Walker
+walker_of Idle = None
+walker_of (Busy j (Start g)) = Some (record { job = j; goal = g; path = None })
+walker_of (Busy j (Walk g q)) = Some (record { job = j; goal = g; path = Some q })
+walker_of (Busy j (PuttingIn q s)) = None
+walker_of (Busy j (TakingOut q s)) = None
+walker_of (Busy j (Settling q s)) = None
 
 -- no reading is noted
 unfoldable pub no_notes : Work → Bool

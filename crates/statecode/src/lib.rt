@@ -6,7 +6,7 @@ ghost use Rattle.std.specs.List.{list_all};
 ghost use Rattle.std.proofs.Math.Seq.{paste};
 ghost use Rattle.terms.specs.Task.{idle_task, work_settles};
 ghost use Rattle.machine.specs.State.{settling, sound, task_at};
-ghost use Rattle.statecode.specs.Walking.{walker_by, put_first};
+ghost use Rattle.statecode.specs.Walking.{walker_of, put_first};
 ghost use Rattle.statecode.specs.Own.{clear_from, own_goal, own_noted, own_by, own_row, storing};
 ghost use Rattle.statecode.specs.Code.{is_state, goal_number, no_links, places, put_row, take_row, settle_row, phase_row, work_row, rows, encode, job_by, path_by, links_by, goal_by, put_by, take_by, settle_by, phase_by, task_by, state_by, decode};
 
@@ -14,14 +14,12 @@ use terms::{
     Goal, Job, Links, Operation, Path, Phase, PutStage, SettleStage, State, TakeStage, Task, Work,
 };
 
-// A task on its way, without its notes: its numbers 0 to 3, 5 and 6.
+// A task that walks: it has no notes, and a path once it is on its way.
 #[derive(Clone, Copy)]
 pub struct Walker {
-    pub phase: u32,
     pub job: Job,
-    pub detail: u32,
-    pub parent: u32,
-    pub here: u32,
+    pub goal: Goal,
+    pub path: Option<Path>,
 }
 
 // Goal stands in the crate terms, and its numbers in this code alone, so they are no From there.
@@ -323,7 +321,7 @@ fn own_by(w: &[u32; 15], f: u32, k: u32) -> bool
     ensures { result ≡ own_by f k w.now }
 {
     match f {
-        0 => clear_from::<1>(w),
+        0 => clear_from::<0>(w),
         1 => own_goal(k) & clear_from::<4>(w),
         2 => own_goal(k) & clear_from::<7>(w),
         3 => k <= 2 && own_noted(w, k),
@@ -418,24 +416,28 @@ pub fn store_task(w: &mut [u32; 122], i: usize, k: Task, m: u32, u: u32)
     put_ends(w, m, u);
 }
 
-fn walker_by(w: &[u32; 15]) -> Walker
-    ensures { result ≡ walker_by w.now }
+// The task of 15 numbers, if it walks.
+#[tactic(auto, unfolding(crate::specs::Code::task_by, crate::specs::Code::phase_by, machine::specs::Choice::if_b))]
+fn walker_by(w: &[u32; 15]) -> Option<Walker>
+    ensures { result ≡ walker_of (task_by w.now).work }
 {
-    let q = path_by(w);
-    Walker {
-        phase: w[0],
+    let path = match w[0] {
+        1 => None,
+        2 => Some(path_by(w)),
+        _ => return None,
+    };
+    Some(Walker {
         job: job_by(w),
-        detail: w[3],
-        parent: q.parent,
-        here: q.here,
-    }
+        goal: goal_by(w[3]),
+        path,
+    })
 }
 
-// Task i of a state, as a walker.
-#[tactic(auto, using(crate::proofs::Own::walker_part))]
-pub fn walker_at(w: &[u32; 122], i: usize) -> Walker
+// Task i of a state, if it walks.
+#[tactic(auto, using(crate::proofs::Own::task_part))]
+pub fn walker_at(w: &[u32; 122], i: usize) -> Option<Walker>
     requires { i < 8 }
-    ensures { result ≡ walker_by (drop (15 * i) w.now) }
+    ensures { result ≡ walker_of (task_at (state_by w.now) i).work }
 {
     walker_by(row_at(w, i))
 }

@@ -1,11 +1,10 @@
 -- Begin, abandon and tidy on a state that stays in its numbers.
 use mathlib.Core.Path.{◌≡◌, refl, sym, ap, ◌∙◌}
-use mathlib.Core.Bool.{Bool, true, false, not}
+use mathlib.Core.Bool.{Bool, true, false}
 use mathlib.Core.List.{List}
 use Prim.Native.Nat.{ℕ, ◌+◌, ◌*◌, ◌≤◌, ◌<◌}
 use native.Mathlib.Nat.{add-zero}
-use lib.ListN.{get_or, drop}
-use borrow.Author.Tests.{eq-eqb, ne_eqb, not-false}
+use lib.ListN.{get_or}
 use Rattle.terms.specs.declared.Path.{Path}
 use Rattle.terms.specs.declared.Job.{Job}
 use Rattle.terms.specs.declared.Operation.{Operation}
@@ -23,48 +22,42 @@ use Rattle.machine.specs.Step.{Left}
 use Rattle.machine.specs.Reach.{Reached, hurt, reached}
 use Rattle.machine.specs.Calls.{abandoned_out, tidy_reached, tidy_of}
 use Rattle.machine.proofs.Choice.{if_elim}
-use Rattle.statecode.specs.declared.GotState.{GotState}
-use Rattle.statecode.specs.declared.Walker.{Walker}
-use Rattle.statecode.specs.Code.{goal_number, no_path, no_links, places, phase_row, encode, task_by, state_by, is_state, decode}
+use Rattle.std.specs.Prelude.{Some}
+use Rattle.terms.specs.declared.Work.{Work}
+use Rattle.terms.specs.declared.Work.TheVariants.{Idle, Busy}
+use Rattle.statecode.specs.Code.{goal_number, no_path, no_links, places, phase_row, encode, state_by, is_state, decode}
 use Rattle.statecode.specs.Own.{storing}
-use Rattle.statecode.specs.Walking.{walker_by, no_notes, put_first}
+use Rattle.statecode.specs.Walking.{no_notes, put_first}
 use Rattle.statecode.proofs.Inverse.{encode-decode}
-use Rattle.statecode.proofs.Walking.{task_row, phase_row_lem, walker-stored, walker-own}
+use Rattle.statecode.proofs.Walking.{walker-stored, walker-own}
 use Rattle.tiebeamer.proofs.ByNumbers.{m_by, u_by, u_bounded}
 
--- whether task i is busy: its place 0
-module _ (w : List ℕ) (i : ℕ) (h : i < 8) (k : Walker) (ek : k ≡ walker_by (drop (15 * i) w)) where
-  task_is : task_at (state_by w) i ≡ task_by (drop (15 * i) w)
-  task_is = task_row w i h
+-- a task that is not busy
+idle_is : (k : Task) → is_busy k.work ≡ false → k ≡ idle_task
+idle_is k e = by_work k.work e
+  where
+    by_work : (x : Work) → is_busy x ≡ false → record { work = x } ≡ idle_task
+    by_work Idle e = refl
+    by_work (Busy j f) e = absurd (cc)
 
-  same-phase : k.phase ≡ get_or (drop (15 * i) w) 0 0
-  same-phase = phase_row_lem w i k ek
+-- a path with nothing in it
+pub none_path : (q : Path) → (q.grand ≡ 0) × ((q.parent ≡ 0) × (q.here ≡ 0)) → q ≡ no_path
+none_path q (a, b) = let f : record { grand = q.grand; parent = q.parent; here = q.here } ≡ no_path = rw (a, b.0, b.1) refl in f
 
-  idle_at : k.phase ≡ 0 → task_at (state_by w) i ≡ idle_task
-  unfolding task_by if_b
-  idle_at e = task_is ∙ simp (eq-eqb (get_or (drop (15 * i) w) 0 0) 0 (sym same-phase ∙ e))
+-- an operation begun over an idle task
+module _ (w : List ℕ) (i : ℕ) (own : is_state w ≡ true) (h : i < 8) (b : Bool) (eb : b ≡ is_busy (task_at (state_by w) i).work) (e : b ≡ false) (o : Operation) (j : Job) (x : ℕ) (ex : x ≡ goal_number (Serve o)) (q : Path) (eq : q ≡ no_path) (last : List ℕ) (el : last ≡ put_first w (15 * i) 1 j x q) where
+  idle_notes : no_notes (task_at (state_by w) i).work ≡ true
+  unfolding no_notes
+  idle_notes = ap (λ (z : Task). no_notes z.work) (idle_is (task_at (state_by w) i) (sym eb ∙ e))
 
-  pub not_busy : k.phase ≡ 0 → false ≡ is_busy (task_at (state_by w) i).work
-  not_busy e = sym (ap (λ (z : Task). is_busy z.work) (idle_at e))
+  begun-row : places 1 j x q no_links no_links no_links no_links ≡ phase_row j (Start (Serve o))
+  begun-row = rw (ex, eq) refl
 
-  pub is_busy_lem : (k.phase ≡ 0 → ⊥) → true ≡ is_busy (task_at (state_by w) i).work
-  unfolding task_by if_b
-  is_busy_lem e = sym (ap (λ (z : Task). is_busy z.work) task_is ∙ simp (ne_eqb (get_or (drop (15 * i) w) 0 0) 0 (λ z. e (same-phase ∙ z))))
+  pub begun-stored : state_by last ≡ with_task (state_by w) i (begun o j)
+  begun-stored = walker-stored w i own h idle_notes (begun o j) 1 j x q begun-row last el
 
-  -- an operation begun over an idle task
-  module _ (own : is_state w ≡ true) (e : k.phase ≡ 0) (o : Operation) (j : Job) (x : ℕ) (ex : x ≡ goal_number (Serve o)) (q : Path) (eq : q ≡ no_path) (last : List ℕ) (el : last ≡ put_first w (15 * i) 1 j x q) where
-    idle_notes : no_notes (task_at (state_by w) i).work ≡ true
-    unfolding no_notes
-    idle_notes = ap (λ (z : Task). no_notes z.work) (idle_at e)
-
-    begun-row : places 1 j x q no_links no_links no_links no_links ≡ phase_row j (Start (Serve o))
-    begun-row = rw (ex, eq) refl
-
-    pub begun-stored : state_by last ≡ with_task (state_by w) i (begun o j)
-    begun-stored = walker-stored w i own h idle_notes (begun o j) 1 j x q begun-row last el
-
-    pub begun-own : is_state last ≡ true
-    begun-own = walker-own w i own h idle_notes (begun o j) 1 j x q begun-row last el
+  pub begun-own : is_state last ≡ true
+  begun-own = walker-own w i own h idle_notes (begun o j) 1 j x q begun-row last el
 
 -- a task given up
 module _ (w : List ℕ) (i : ℕ) (k : Task) (b : Bool) (eb : b ≡ work_settles k.work) (x : Task) (ex : x ≡ abandoned k) (s : State) where
@@ -92,9 +85,8 @@ tidy-state t st =
     if_elim P _ (λ e. refl) (λ e. if_elim P _ (λ e. refl) (λ e. if_elim P _ (λ e. refl) (λ e. tidied-state t st _)))
 
 pub tidy-kept :
-    (t w : List ℕ) (g : GotState) → g ≡ decode w → not g.fine ≡ false → (t' : List ℕ) (o : Out) → after t' o ≡ tidy_of t g.state → w ≡ encode o.state
+    (t w : List ℕ) (st : State) → decode w ≡ Some st → (t' : List ℕ) (o : Out) → after t' o ≡ tidy_of t st → w ≡ encode o.state
 unfolding after
-tidy-kept t w g eg f t' o e =
-    let z : o.state ≡ g.state = ap (λ (l : Left). l.state) e ∙ tidy-state t g.state in
-    let y : (decode w).fine ≡ true = rw (← eg) (not-false g.fine f) in
-    rw (z, eg) (sym (encode-decode w y))
+tidy-kept t w st e t' o eo =
+    let z : o.state ≡ st = ap (λ (l : Left). l.state) eo ∙ tidy-state t st in
+    rw z (sym (encode-decode w st e))

@@ -7,3 +7,4 @@ pub mod Walks
 pub mod Begins
 pub mod Unchanged
 pub mod ByNumbers
+pub mod Runs

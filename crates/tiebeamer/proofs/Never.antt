@@ -1,14 +1,19 @@
 -- The refusal of numbers that are no state is never given on a state that the calls made.
-use mathlib.Core.Path.{◌≡◌, refl, ap}
-use mathlib.Core.Bool.{Bool, true, false, not}
+use mathlib.Core.Path.{◌≡◌, refl}
 use mathlib.Core.List.{List, [], ◌∷◌}
 use Prim.Native.Nat.{ℕ, ◌≤◌}
 use native.Mathlib.Omega.{arith}
 use lib.ListN.{replicate}
+use Rattle.std.specs.Prelude.{Some, Ok, Err}
+use Rattle.std.specs.declared.result.Result.{Result}
+use Rattle.terms.specs.declared.Operation.{Operation}
+use Rattle.terms.specs.declared.NoOperation.{NoOperation}
+use Rattle.terms.specs.declared.State.{State}
+use Rattle.terms.specs.Operations.{operation_at}
+use Rattle.machine.specs.Calls.{begin_of}
 use Rattle.terms.specs.declared.Answer.{Answer}
 use Rattle.terms.specs.declared.Answer.TheVariants.{Accepted, Found, NotHeld, PutSettled, HeldAlready, TakenOut, PutUnsettled, TaskNumber, OutOfRange, TaskBusy, TaskIdle, SomeBusy, NoRoom, Limit, Damaged, Length, BadRecord}
 use Rattle.terms.specs.declared.Report.{Report}
-use Rattle.machine.specs.Choice.{if_b}
 use Rattle.terms.specs.Answers.{number_of}
 use Rattle.machine.specs.State.{fresh_state}
 use Rattle.machine.specs.Step.{Left}
@@ -16,13 +21,13 @@ use Rattle.machine.specs.Calls.{Listed}
 use Rattle.machine.proofs.Choice.{if_elim}
 use Rattle.statecode.specs.Code.{encode, decode, rows}
 use Rattle.statecode.proofs.Inverse.{decode-encode, eight-read}
-use Rattle.tiebeamer.specs.Interface.{Told, Shown, told, as_numbers, reset_told, begin_told, step_told, run_told, abandon_told, tidy_told, shown, report_shown, figures_shown, listed_shown, list_shown}
+use Rattle.tiebeamer.specs.Interface.{by_operation, Told, Shown, told, as_numbers, reset_told, begin_told, step_told, run_told, abandon_told, tidy_told, shown, report_shown, figures_shown, listed_shown, list_shown}
 use Rattle.tiebeamer.specs.Asked.{Asked, reset, begin, step, run, abandon, tidy, figures, list, answer_to, state_left, state_made}
 use Rattle.tiebeamer.proofs.Kept.{Eight, reset-eight, begin-eight, step-eight, run-eight, abandon-eight, tidy-eight}
 
 -- numbers that are a state
 abbrev pub Fine : List ℕ → Type 0
-Fine w = (decode w).fine ≡ true
+Fine w = (st : State) × (decode w ≡ Some st)
 
 -- document 01 numbers its answers up to 19
 pub number-most : (a : Answer) → number_of a ≤ 19
@@ -50,27 +55,16 @@ Good o = Fine o.state × (o.answer ≡ 50 → ⊥)
 
 numbers-good : (l : Left) → Eight l → Good (as_numbers l)
 unfolding as_numbers told
-numbers-good l h = (ap (λ r. r.fine) (decode-encode l.state h), λ e. absurd (omega (arith, e, number-most l.answer)))
-
--- the first test does not refuse a state
-passed : (b : Bool) (x y : Told) → b ≡ true → Good y → Good (if_b (not b) x y)
-unfolding if_b
-passed true x y e h = h
-passed false x y e h = absurd (let z : ◌≡◌ {A = ℕ} 0 1 = cc in omega arith)
+numbers-good l h = ((l.state, decode-encode l.state h), λ e. absurd (omega (arith, e, number-most l.answer)))
 
 -- nor does the second change the state
-other : (b : Bool) (p : ℕ) (t w : List ℕ) (y : Told) → Fine w → Good y → Good (if_b b (told 51 p t w) y)
+other-good : (t w : List ℕ) (p : ℕ) → Fine w → Good (told 51 p t w)
 unfolding told
-other b p t w y f h = if_elim Good b (λ e. (f, λ x. absurd (omega (arith, x)))) (λ e. h)
+other-good t w p f = (f, λ x. absurd (omega (arith, x)))
 
 -- the same of figures and list, which leave the state
 abbrev Answers : Shown → Type 0
 Answers o = o.answer ≡ 50 → ⊥
-
-passed-shown : (b : Bool) (x y : Shown) → b ≡ true → Answers y → Answers (if_b (not b) x y)
-unfolding if_b
-passed-shown true x y e h = h
-passed-shown false x y e h = absurd (let z : ◌≡◌ {A = ℕ} 0 1 = cc in omega arith)
 
 report_answers : (r : Report) (l : List ℕ) → Answers (report_shown r l)
 unfolding report_shown shown
@@ -83,35 +77,39 @@ listed-answers r x = absurd (omega (arith, x, number-most r.answer))
 module _ (t w : List ℕ) (f : Fine w) where
   pub reset-good : Good (reset_told t w)
   unfolding reset_told
-  reset-good = passed (decode w).fine _ _ f (numbers-good _ (reset-eight t (decode w).state (eight-read w)))
+  reset-good = rw f.1 (numbers-good _ (reset-eight t f.0 (eight-read w f.0 f.1)))
 
   pub begin-good : (i o n p : ℕ) → Good (begin_told t w i o n p)
   unfolding begin_told
-  begin-good i o n p = passed (decode w).fine _ _ f (other _ 0 t w _ f (numbers-good _ (begin-eight t (decode w).state (eight-read w) i _ _)))
+  begin-good i o n p = rw f.1 (of_operation (operation_at o))
+    where
+      of_operation : (r : Result Operation NoOperation) → Good (by_operation r (told 51 0 t w) (λ y. as_numbers (begin_of t f.0 i y (record { number = n; price = p }))))
+      of_operation (Ok y) = numbers-good _ (begin-eight t f.0 (eight-read w f.0 f.1) i y _)
+      of_operation (Err x) = other-good t w 0 f
 
   pub step-good : (i p : ℕ) → Good (step_told t w i p)
   unfolding step_told
-  step-good i p = passed (decode w).fine _ _ f (numbers-good _ (step-eight t (decode w).state (eight-read w) i))
+  step-good i p = rw f.1 (numbers-good _ (step-eight t f.0 (eight-read w f.0 f.1) i))
 
   pub run-good : (i c p : ℕ) → Good (run_told t w i c p)
   unfolding run_told
-  run-good i c p = passed (decode w).fine _ _ f (other _ p t w _ f (numbers-good _ (run-eight c t (decode w).state i (eight-read w))))
+  run-good i c p = rw f.1 (if_elim Good _ (λ e. other-good t w p f) (λ e. numbers-good _ (run-eight c t f.0 i (eight-read w f.0 f.1))))
 
   pub abandon-good : (i : ℕ) → Good (abandon_told t w i)
   unfolding abandon_told
-  abandon-good i = passed (decode w).fine _ _ f (numbers-good _ (abandon-eight t (decode w).state (eight-read w) i))
+  abandon-good i = rw f.1 (numbers-good _ (abandon-eight t f.0 (eight-read w f.0 f.1) i))
 
   pub tidy-good : Good (tidy_told t w)
   unfolding tidy_told
-  tidy-good = passed (decode w).fine _ _ f (numbers-good _ (tidy-eight t (decode w).state (eight-read w)))
+  tidy-good = rw f.1 (numbers-good _ (tidy-eight t f.0 (eight-read w f.0 f.1)))
 
   pub figures-answers : (l : List ℕ) → Answers (figures_shown t w l)
   unfolding figures_shown
-  figures-answers l = passed-shown (decode w).fine _ _ f (report_answers _ l)
+  figures-answers l = rw f.1 (report_answers _ l)
 
   pub list-answers : (l : List ℕ) → Answers (list_shown t w l)
   unfolding list_shown
-  list-answers l = passed-shown (decode w).fine _ _ f (listed-answers _)
+  list-answers l = rw f.1 (listed-answers _)
 
 -- a call leaves a state where it found one
 pub left-fine : (a : Asked) (w : List ℕ) → Fine w → Fine (state_left a w)
@@ -127,7 +125,7 @@ left-fine (list t l) w f = f
 
 zeros-fine : Fine (replicate 122 0)
 unfolding encode rows
-zeros-fine = ap (λ r. r.fine) (decode-encode fresh_state refl)
+zeros-fine = (fresh_state, decode-encode fresh_state refl)
 
 -- what calls made from zeros on is a state
 pub made-fine : (past : List Asked) → Fine (state_made past)

@@ -1,24 +1,37 @@
 -- How the functions below the calls speak of a state that stays in its numbers.
-use Rattle.std.specs.Prelude.{ℕ, ◌*◌, ◌≤◌, ◌<◌, ◌≡◌, true, List, eqb, length, drop}
+use Rattle.std.specs.Prelude.{ℕ, ◌<◌, ◌≡◌, true, List, eqb, Some, None, Ok, Err}
+use Rattle.std.specs.declared.option.Option.{Option}
+use Rattle.std.specs.declared.result.Result.{Result}
+use Rattle.terms.specs.declared.Path.{Path}
 use Rattle.terms.specs.declared.Answer.{Answer}
 use Rattle.terms.specs.declared.Out.{Out}
+use Rattle.terms.specs.declared.Refusal.{Refusal}
+use Rattle.terms.specs.declared.Refusal.TheVariants.{Damaged}
+use Rattle.terms.specs.Answers.{answer_of}
 use Rattle.terms.specs.Task.{no_grand}
 use Rattle.machine.specs.Choice.{if_b}
+use Rattle.machine.specs.State.{task_at}
 use Rattle.statecode.specs.declared.Walker.{Walker}
 use Rattle.statecode.specs.Code.{is_state, state_by}
-use Rattle.statecode.specs.Walking.{walker_by}
+use Rattle.statecode.specs.Walking.{walker_of}
+
+-- the answer of a call that may be refused
+abbrev pub answered : Result Answer Refusal → Answer
+answered (Ok a) = a
+answered (Err e) = answer_of e
 
 -- what a call hands back: the state that the numbers are, and its answer
 abbrev pub out_by : List ℕ → Answer → Out
 out_by w a = record { state = state_by w; answer = a }
 
--- the slot that a walker's next step leaves, and that slot's parent: "first the entry's left"
-unfoldable pub from_of : Walker → ℕ
-from_of k = if_b (eqb k.phase 1) 0 k.here
+-- the slot that a walker's next step leaves, behind its parent: "first the entry's left"; below it the entry is damage
+abbrev pub left_on : Option Path → Result (ℕ × ℕ) Refusal
+left_on None = Ok (no_grand, 0)
+left_on (Some q) = if_b (eqb q.here 0) (Err Damaged) (Ok (q.parent, q.here))
 
-unfoldable pub grand_of : Walker → ℕ
-grand_of k = if_b (eqb k.phase 1) no_grand k.parent
+abbrev pub left_by : Walker → Result (ℕ × ℕ) Refusal
+left_by k = left_on k.path
 
--- the numbers of task i are those of a walker, about to walk or walking
+-- the numbers are a state, and task i of it walks as k
 abbrev pub Walks : List ℕ → ℕ → Walker → Type 0
-Walks w i k = (length w ≡ 122) × (is_state w ≡ true) × (i < 8) × (k ≡ walker_by (drop (15 * i) w)) × (1 ≤ k.phase) × (k.phase ≤ 2)
+Walks w i k = (is_state w ≡ true) × (i < 8) × (walker_of (task_at (state_by w) i).work ≡ Some k)

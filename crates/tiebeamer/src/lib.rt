@@ -3,83 +3,155 @@
 // exports the calls under C's names, with the same clauses.
 #![tactic(auto)]
 
-ghost use Rattle.std.specs.Prelude.{◌≡◌, true, false, ◌≤◌, ◌<◌, length, get_or};
-ghost use Rattle.machine.specs.Contract.{Sized, after, turned_out};
-ghost use Rattle.machine.specs.Step.{step_work, step_of};
+ghost use Rattle.std.specs.Prelude.{◌≡◌, true, false, ◌≤◌, ◌<◌, ℕ, get_or, Ok};
+ghost use Rattle.fields.specs.Writes.{seen, SameTable};
+ghost use Rattle.machine.specs.Contract.{after, turned_out};
+ghost use Rattle.machine.specs.Step.{unsettled, step_work, step_of};
 ghost use Rattle.machine.specs.Table.{slots};
-ghost use Rattle.terms.specs.Answers.{number_of};
 ghost use Rattle.machine.specs.Calls.{begin_of, abandon_of};
 ghost use Rattle.machine.specs.CallFile.{end_line, run_of};
-ghost use Rattle.statecode.specs.Code.{encode, is_state, state_by, goal_by};
+ghost use Rattle.statecode.specs.Code.{is_state, state_by};
+ghost use Rattle.tiebeamer.specs.declared.Unasked.TheVariants as Unasked;
 ghost use Rattle.walk.specs.Arrived.{turn_at};
-ghost use Rattle.machine.specs.State.{task_at};
-ghost use Rattle.tiebeamer.specs.Numbers.{out_by, from_of, grand_of, Walks};
-ghost use Rattle.tiebeamer.specs.Interface.{told, reset_told, begin_told, step_told, run_told, abandon_told, tidy_told, shown, figures_shown, list_shown};
+ghost use Rattle.machine.specs.State.{one, task_at};
+ghost use Rattle.tiebeamer.specs.Numbers.{answered, out_by, left_by, Walks};
+ghost use Rattle.tiebeamer.specs.Interface.{known, number_refused, number_asked, price_asked, told, reset_told, begin_told, step_told, run_told, abandon_told, tidy_told, shown, figures_shown, list_shown};
 
-use callfile::{operation_of, price_of};
-use fields::{length_fits, slots_of};
+use fields::{Slots, SlotsMut, fitting_slots};
 use resetting::reset;
-use state::{ask_fits, job_fits, number_of, one_if};
+use state::{ask_fits, job_fits, task_place};
 use statecode::{
-    Walker, goal_by, goal_number, is_sound_by, is_state, no_path, put_first, read_state,
-    store_task, task_at, walker_at, write_state,
+    Walker, goal_number, is_sound_by, is_state, put_first, read_state, store_task, task_at,
+    walker_at, write_state,
 };
 use stepping::phase_step;
-use terms::{Answer, Figures, Goal, Job, Operation, Out, Path, Task, Turn, Work};
+use terms::{
+    Answer, Figures, Goal, Job, NoOperation, Operation, Outcome, Path, Refusal, State, Task, Turn,
+    Work,
+};
 use walk::{Arrival, walk_out};
 use whole::{figures, list, tidy};
 
-// The state is written; the answer's number.
-fn hand_back(state: &mut [u32], o: Out) -> u32
-    requires { length state.old ≡ 122 }
-    ensures { (result ≡ number_of o.answer) × (state.new ≡ encode o.state) }
+// The refusals of the interface's own: the numbers lent are no state, or no call has this operation or count.
+#[derive(Clone, Copy)]
+enum Unasked {
+    NoState,
+    NoCall,
+}
+
+impl From<Unasked> for u32 {
+    ghost from_gives = { λ e n. n ≡ number_refused e };
+
+    fn from(e: Unasked) -> u32 {
+        match e {
+            Unasked::NoState => 50,
+            Unasked::NoCall => 51,
+        }
+    }
+}
+
+impl From<NoOperation> for Unasked {
+    ghost from_gives = { λ o e. e ≡ Unasked.NoCall };
+
+    fn from(_: NoOperation) -> Unasked {
+        Unasked::NoCall
+    }
+}
+
+// The number of what a call comes to.
+fn number_asked(r: Result<Answer, Unasked>) -> u32
+    ensures { result ≡ number_asked r }
 {
-    let s = o.state;
-    write_state(state, s);
-    let a = o.answer;
-    number_of(a)
+    match r {
+        Ok(a) => a.into(),
+        Err(e) => e.into(),
+    }
+}
+
+// The price is written where the call is made.
+fn put_price(price: &mut u32, r: Result<Answer, Unasked>)
+    ensures { price.new ≡ price_asked price.old r }
+{
+    if let Ok(a) = r {
+        *price = a.price();
+    }
+}
+
+// The answer of a call that may be refused.
+fn answered(r: Result<Answer, Refusal>) -> Answer
+    ensures { result ≡ answered r }
+{
+    match r {
+        Ok(a) => a,
+        Err(e) => e.into(),
+    }
+}
+
+// The state of the numbers lent, or 50.
+fn known(w: &[u32]) -> Result<State, Unasked>
+    ensures { result ≡ known w.now }
+{
+    match read_state(w) {
+        Some(st) => Ok(st),
+        None => Err(Unasked::NoState),
+    }
+}
+
+// The table and the state start anew.
+fn reset_asked(t: &mut [u32], w: &mut [u32]) -> Result<Answer, Unasked>
+    ensures { told (number_asked result) 0 t.new w.new ≡ reset_told t.old w.old }
+{
+    let st = known(w)?;
+    let Some(w) = w.as_mut_array() else {
+        return Err(Unasked::NoState);
+    };
+    let o = reset(t, st);
+    write_state(w, o.state);
+    Ok(o.answer)
 }
 
 pub fn tiebeamer_reset(table: &mut [u32], state: &mut [u32]) -> u32
     ensures { told result 0 table.new state.new ≡ reset_told table.old state.old }
 {
-    let g = read_state(state);
-    if !g.fine {
-        return 50;
-    }
-    let st = g.state;
-    let o = reset(table, st);
-    hand_back(state, o)
+    number_asked(reset_asked(table, state))
 }
 
-// Task i begins an operation. The places 7 to 14 of an idle task are 0 already, so its first seven numbers are enough.
-#[tactic(auto, using(crate::proofs::Begins::not_busy, crate::proofs::Begins::is_busy_lem), unfolding(machine::specs::Contract::after, machine::specs::Calls::begin_of, machine::specs::Choice::if_b))]
-fn begin_by(t: &[u32], w: &mut [u32], i: u32, o: Operation, j: Job) -> Answer
-    requires { (length w.old ≡ 122) × (is_state w.old ≡ true) }
-    ensures { (after t.now (out_by w.new result) ≡ begin_of t.now (state_by w.old) i o j) × (is_state w.new ≡ true) }
+// Task i begins an operation, or the first refusal that holds. The places 7 to 14 of an idle task are 0 already, so its
+// first seven numbers are enough.
+#[tactic(auto, unfolding(machine::specs::Contract::after, machine::specs::Calls::begin_of, machine::specs::Choice::if_b))]
+fn begun(t: &[u32], w: &mut [u32; 122], i: u32, o: Operation, j: Job) -> Result<Answer, Refusal>
+    requires { is_state w.old ≡ true }
+    ensures { (after t.now (out_by w.new (answered result)) ≡ begin_of t.now (state_by w.old) i o j) × (is_state w.new ≡ true) }
 {
-    if !length_fits(t.len()) {
-        return Answer::Length;
-    }
-    if 7 < i {
-        return Answer::TaskNumber;
-    }
+    fitting_slots(t.len())?;
+    let at = task_place(i)?;
     if !ask_fits(o, j) {
-        return Answer::OutOfRange;
+        return Err(Refusal::OutOfRange);
     }
-    let at = i as usize;
-    let k = walker_at(w, at);
-    if k.phase != 0 {
-        return Answer::TaskBusy;
+    if task_at(w, at).is_busy() {
+        return Err(Refusal::TaskBusy);
     }
     if !is_sound_by(w) {
-        return Answer::Damaged;
+        return Err(Refusal::Damaged);
     }
-    put_first(w, at, 1, j, goal_number(Goal::Serve(o)), no_path());
-    Answer::Accepted
+    put_first(w, at, 1, j, goal_number(Goal::Serve(o)), Path::default());
+    Ok(Answer::Accepted)
 }
 
 // The operation is 1 look up, 2 put in, 3 take out.
+fn begin_asked(t: &[u32], w: &mut [u32], i: u32, operation: u32, j: Job) -> Result<Answer, Unasked>
+    ensures { told (number_asked result) 0 t.now w.new ≡ begin_told t.now w.old i operation j.number j.price }
+{
+    let Some(w) = w.as_mut_array() else {
+        return Err(Unasked::NoState);
+    };
+    if !is_state(w) {
+        return Err(Unasked::NoState);
+    }
+    let o = Operation::try_from(operation)?;
+    Ok(answered(begun(t, w, i, o, j)))
+}
+
 pub fn tiebeamer_begin(
     table: &[u32],
     state: &mut [u32],
@@ -90,196 +162,183 @@ pub fn tiebeamer_begin(
 ) -> u32
     ensures { told result 0 table.now state.new ≡ begin_told table.now state.old task operation number price }
 {
-    if !is_state(state) {
-        return 50;
-    }
-    if !((1 <= operation) & (operation <= 3)) {
-        return 51;
-    }
-    let j = Job {
-        number: number,
-        price: price,
-    };
-    let a = begin_by(table, state, task, operation_of(operation), j);
-    number_of(a)
+    let j = Job { number, price };
+    number_asked(begin_asked(table, state, task, operation, j))
+}
+
+// Answer 6 leaves a put-in unsettled.
+fn unsettled(a: Answer) -> u32
+    ensures { result ≡ one (unsettled a) }
+{
+    u32::from(matches!(a, Answer::PutUnsettled))
 }
 
 // A turn of task i is stored in the state; its answer.
-fn store_turn(w: &mut [u32], i: usize, m: u32, u: u32, a: Turn, committed: bool) -> Answer
-    requires { (length w.old ≡ 122) × (is_state w.old ≡ true) × (i < 8) × (m ≡ (state_by w.old).m) × (u ≡ (state_by w.old).u) × (m ≤ 1000000) × (u ≤ 1000000) }
-    ensures { (out_by w.new result ≡ turned_out (state_by w.old) i a committed) × (is_state w.new ≡ true) }
+fn store_turn(w: &mut [u32; 122], i: usize, r: Outcome) -> Answer
+    requires { (is_state w.old ≡ true) × (i < 8) × (get_or w.old 120 0 ≤ 1000000) × (get_or w.old 121 0 ≤ 1000000) }
+    ensures { (out_by w.new result ≡ turned_out (state_by w.old) i r.turn r.committed) × (is_state w.new ≡ true) }
 {
-    match a {
+    let m = w[120] + u32::from(r.committed);
+    let u = w[121];
+    match r.turn {
         Turn::Hurt => Answer::Damaged,
         Turn::Next(k) => {
-            store_task(w, i, k, m + one_if(committed), u);
+            store_task(w, i, k, m, u);
             Answer::Accepted
         }
         Turn::Done(b) => {
-            let more = one_if(number_of(b) == 6);
-            store_task(
-                w,
-                i,
-                Task { work: Work::Idle },
-                m + one_if(committed),
-                u + more,
-            );
+            store_task(w, i, Task::idle(), m, u + unsettled(b));
             b
         }
     }
 }
 
-// A step of task i, which does k.
-#[tactic(auto, using(crate::proofs::ByNumbers::m_by), unfolding(machine::specs::Contract::after, machine::specs::Contract::acted, machine::specs::Contract::played, machine::specs::Contract::turned_out, machine::specs::Step::step_work, machine::specs::Step::carried, machine::specs::Choice::if_b))]
-fn step_work_by(t: &mut [u32], n: u32, w: &mut [u32], i: usize, k: Work) -> Answer
-    requires { Sized t.old n × (n ≡ slots t.old) × (length w.old ≡ 122) × (is_state w.old ≡ true) × (i < 8) }
-    ensures { (after t.new (out_by w.new result) ≡ step_work t.old (state_by w.old) i k) × (is_state w.new ≡ true) }
+// A step of task i, by what it does.
+#[tactic(auto, unfolding(machine::specs::Contract::after, machine::specs::Contract::acted, machine::specs::Contract::played, machine::specs::Contract::turned_out, machine::specs::Step::step_work, machine::specs::Step::carried, machine::specs::Choice::if_b))]
+fn step_work(t: &mut SlotsMut, w: &mut [u32; 122], i: usize) -> Result<Answer, Refusal>
+    requires { (t.old.n ≡ slots t.old.numbers.now) × (is_state w.old ≡ true) × (i < 8) }
+    ensures { (after t.new.numbers.now (out_by w.new (answered result)) ≡ step_work t.old.numbers.now (state_by w.old) i (task_at (state_by w.old) i).work) × (is_state w.new ≡ true) × SameTable t.old t.new }
 {
-    match k {
-        Work::Idle => Answer::TaskIdle,
-        Work::Busy(j, f) => {
-            if !(is_sound_by(w) & job_fits(j)) {
-                return Answer::Damaged;
+    let Work::Busy(j, f) = task_at(w, i).work else {
+        return Err(Refusal::TaskIdle);
+    };
+    if !(is_sound_by(w) & job_fits(j)) {
+        return Err(Refusal::Damaged);
+    }
+    let r = phase_step(t, w[120], j, f);
+    Ok(store_turn(w, i, r))
+}
+
+// The slot that a walker's next step leaves, behind its parent: first the entry, and never the entry again.
+#[tactic(auto, unfolding(machine::specs::Choice::if_b))]
+fn left_by(k: Walker) -> Result<(u32, u32), Refusal>
+    ensures { result ≡ left_by k }
+{
+    match k.path {
+        None => Ok((4294967295, 0)),
+        Some(q) => {
+            if q.here == 0 {
+                return Err(Refusal::Damaged);
             }
-            let m = w[120];
-            let u = w[121];
-            let r = phase_step(t, n, m, j, f);
-            let a = r.turn;
-            store_turn(w, i, m, u, a, r.committed)
+            Ok((q.parent, q.here))
         }
     }
 }
 
-// The slot that a walker's next step leaves.
-#[tactic(auto, unfolding(crate::specs::Numbers::from_of, machine::specs::Choice::if_b))]
-fn from_of(k: Walker) -> u32
-    ensures { result ≡ from_of k }
-{
-    if k.phase == 1 {
-        return 0;
-    }
-    k.here
-}
-
-// The parent of that slot.
-#[tactic(auto, unfolding(crate::specs::Numbers::grand_of, machine::specs::Choice::if_b))]
-fn grand_of(k: Walker) -> u32
-    ensures { result ≡ grand_of k }
-{
-    if k.phase == 1 {
-        return 4294967295;
-    }
-    k.parent
-}
-
-// What a walker came to is stored in its numbers; its answer.
-fn store_arrival(w: &mut [u32], i: usize, k: Walker, q: Path, a: Arrival) -> Answer
+// What a walker came to is stored in its numbers; its answer. While it goes on, the number of its goal stays the one that stands there.
+fn store_arrival(w: &mut [u32; 122], i: usize, k: Walker, q: Path, a: Arrival) -> Answer
     requires { Walks w.old i k × (get_or w.old 120 0 ≤ 1000000) × (get_or w.old 121 0 ≤ 1000000) }
-    ensures { (out_by w.new result ≡ turned_out (state_by w.old) i (turn_at (goal_by k.detail) k.job q a) false) × (is_state w.new ≡ true) }
+    ensures { (out_by w.new result ≡ turned_out (state_by w.old) i (turn_at k.goal k.job q a) false) × (is_state w.new ≡ true) }
 {
-    let j = k.job;
     match a {
-        Arrival::Lost => Answer::Damaged,
+        Arrival::Lost => return Answer::Damaged,
         Arrival::On => {
-            put_first(w, i, 2, j, k.detail, q);
-            Answer::Accepted
+            let goal = w[15 * i + 3];
+            put_first(w, i, 2, k.job, goal, q);
         }
-        Arrival::Puts => {
-            put_first(w, i, 3, j, 0, q);
-            Answer::Accepted
-        }
-        Arrival::Takes => {
-            put_first(w, i, 4, j, 0, q);
-            Answer::Accepted
-        }
-        Arrival::Settles => {
-            put_first(w, i, 5, j, 0, q);
-            Answer::Accepted
-        }
+        Arrival::Puts => put_first(w, i, 3, k.job, 0, q),
+        Arrival::Takes => put_first(w, i, 4, k.job, 0, q),
+        Arrival::Settles => put_first(w, i, 5, k.job, 0, q),
         Arrival::Ends(b) => {
-            let m = w[120];
-            let u = w[121];
-            store_turn(w, i, m, u, Turn::Done(b), false)
+            let r = Outcome {
+                turn: Turn::Done(b),
+                committed: false,
+            };
+            return store_turn(w, i, r);
         }
     }
+    Answer::Accepted
 }
 
 // A step of task i, which walks. It has no notes before and after, so seven numbers are enough unless the operation ends.
-fn walk_by(t: &[u32], n: u32, w: &mut [u32], i: usize, k: Walker) -> Answer
-    requires { Sized t.now n × (n ≡ slots t.now) × Walks w.old i k }
-    ensures { (after t.now (out_by w.new result) ≡ step_work t.now (state_by w.old) i (task_at (state_by w.old) i).work) × (is_state w.new ≡ true) }
+fn walk_on(t: &Slots, w: &mut [u32; 122], i: usize, k: Walker) -> Result<Answer, Refusal>
+    requires { (t.now.n ≡ slots t.now.numbers.now) × Walks w.old i k }
+    ensures { (after t.now.numbers.now (out_by w.new (answered result)) ≡ step_work t.now.numbers.now (state_by w.old) i (task_at (state_by w.old) i).work) × (is_state w.new ≡ true) }
 {
-    let j = k.job;
-    if !(is_sound_by(w) & job_fits(j)) {
-        return Answer::Damaged;
+    if !(is_sound_by(w) & job_fits(k.job)) {
+        return Err(Refusal::Damaged);
     }
-    let s = from_of(k);
-    if (k.phase == 2) & (s == 0) {
-        return Answer::Damaged;
-    }
-    let grand = grand_of(k);
-    let r = walk_out(t, n, goal_by(k.detail), j, grand, s);
+    let (grand, parent) = left_by(k)?;
+    let r = walk_out(t, k.goal, k.job, grand, parent);
     let q = Path {
-        grand: grand,
-        parent: s,
+        grand,
+        parent,
         here: r.to,
     };
-    let a = r.at;
-    store_arrival(w, i, k, q, a)
+    Ok(store_arrival(w, i, k, q, r.at))
 }
 
-// A step of task i, the state in its numbers: only the task's own are read and written.
+// A step of task i, or the first refusal that holds. The state stays in its numbers: only the task's own are read and written.
 #[tactic(auto, unfolding(machine::specs::Contract::after, machine::specs::Step::step_of, machine::specs::Choice::if_b))]
-fn step_by(t: &mut [u32], w: &mut [u32], i: u32) -> Answer
-    requires { (length w.old ≡ 122) × (is_state w.old ≡ true) }
+fn stepped(t: &mut [u32], w: &mut [u32; 122], i: u32) -> Result<Answer, Refusal>
+    requires { is_state w.old ≡ true }
+    ensures { (after t.new (out_by w.new (answered result)) ≡ step_of t.old (state_by w.old) i) × (is_state w.new ≡ true) }
+{
+    let n = fitting_slots(t.len())?;
+    let at = task_place(i)?;
+    match walker_at(w, at) {
+        Some(k) => walk_on(&Slots { numbers: t, n }, w, at, k),
+        None => step_work(&mut SlotsMut { numbers: t, n }, w, at),
+    }
+}
+
+fn step_by(t: &mut [u32], w: &mut [u32; 122], i: u32) -> Answer
+    requires { is_state w.old ≡ true }
     ensures { (after t.new (out_by w.new result) ≡ step_of t.old (state_by w.old) i) × (is_state w.new ≡ true) }
 {
-    let l = t.len();
-    if !length_fits(l) {
-        return Answer::Length;
-    }
-    if 7 < i {
-        return Answer::TaskNumber;
-    }
-    let at = i as usize;
-    let n = slots_of(l);
-    let k = walker_at(w, at);
-    if (1 <= k.phase) & (k.phase <= 2) {
-        return walk_by(t, n, w, at, k);
-    }
-    let o = task_at(w, at);
-    let f = o.work;
-    step_work_by(t, n, w, at, f)
+    answered(stepped(t, w, i))
 }
 
 // So many steps, as long as they answer 0.
-fn run_by(t: &mut [u32], w: &mut [u32], i: u32, count: u32) -> Answer
-    requires { (length w.old ≡ 122) × (is_state w.old ≡ true) × (1 ≤ count) }
+fn run_by(t: &mut [u32], w: &mut [u32; 122], i: u32, count: u32) -> Answer
+    requires { (is_state w.old ≡ true) × (1 ≤ count) }
     ensures { (after t.new (out_by w.new result) ≡ run_of count t.old (state_by w.old) i) × (is_state w.new ≡ true) }
 {
-    let mut left = count;
-    loop {
+    for _ in 1..count {
         let a = step_by(t, w, i);
-        let on = (number_of(a) == 0) & (left != 1);
-        if !on {
+        if u32::from(a) != 0 {
             return a;
         }
-        left -= 1;
     }
+    step_by(t, w, i)
+}
+
+fn step_asked(t: &mut [u32], w: &mut [u32], i: u32) -> Result<Answer, Unasked>
+    ensures { (p : ℕ) → told (number_asked result) (price_asked p result) t.new w.new ≡ step_told t.old w.old i p }
+{
+    let Some(w) = w.as_mut_array() else {
+        return Err(Unasked::NoState);
+    };
+    if !is_state(w) {
+        return Err(Unasked::NoState);
+    }
+    Ok(step_by(t, w, i))
 }
 
 pub fn tiebeamer_step(table: &mut [u32], state: &mut [u32], task: u32, price: &mut u32) -> u32
     ensures { told result price.new table.new state.new ≡ step_told table.old state.old task price.old }
 {
-    if !is_state(state) {
-        return 50;
-    }
-    let a = step_by(table, state, task);
-    *price = price_of(a);
-    number_of(a)
+    let r = step_asked(table, state, task);
+    put_price(price, r);
+    number_asked(r)
 }
 
-// So many steps, as long as they answer 0.
+// So many steps, as long as they answer 0: 1 to 65,535.
+fn run_asked(t: &mut [u32], w: &mut [u32], i: u32, count: u32) -> Result<Answer, Unasked>
+    ensures { (p : ℕ) → told (number_asked result) (price_asked p result) t.new w.new ≡ run_told t.old w.old i count p }
+{
+    let Some(w) = w.as_mut_array() else {
+        return Err(Unasked::NoState);
+    };
+    if !is_state(w) {
+        return Err(Unasked::NoState);
+    }
+    if !((1 <= count) & (count <= 65535)) {
+        return Err(Unasked::NoCall);
+    }
+    Ok(run_by(t, w, i, count))
+}
+
 pub fn tiebeamer_run(
     table: &mut [u32],
     state: &mut [u32],
@@ -289,68 +348,67 @@ pub fn tiebeamer_run(
 ) -> u32
     ensures { told result price.new table.new state.new ≡ run_told table.old state.old task count price.old }
 {
-    if !is_state(state) {
-        return 50;
-    }
-    if !((1 <= count) & (count <= 65535)) {
-        return 51;
-    }
-    let a = run_by(table, state, task, count);
-    *price = price_of(a);
-    number_of(a)
+    let r = run_asked(table, state, task, count);
+    put_price(price, r);
+    number_asked(r)
 }
 
-// Task i is abandoned; its numbers are read as a task.
+// Task i is abandoned, or the first refusal that holds; its numbers are read as a task.
 #[tactic(auto, unfolding(machine::specs::Contract::after, machine::specs::Calls::abandon_of, machine::specs::Choice::if_b))]
-fn abandon_by(t: &[u32], w: &mut [u32], i: u32) -> Answer
-    requires { (length w.old ≡ 122) × (is_state w.old ≡ true) }
-    ensures { (after t.now (out_by w.new result) ≡ abandon_of t.now (state_by w.old) i) × (is_state w.new ≡ true) }
+fn given_up(t: &[u32], w: &mut [u32; 122], i: u32) -> Result<Answer, Refusal>
+    requires { is_state w.old ≡ true }
+    ensures { (after t.now (out_by w.new (answered result)) ≡ abandon_of t.now (state_by w.old) i) × (is_state w.new ≡ true) }
 {
-    if !length_fits(t.len()) {
-        return Answer::Length;
-    }
-    if 7 < i {
-        return Answer::TaskNumber;
-    }
-    let at = i as usize;
+    fitting_slots(t.len())?;
+    let at = task_place(i)?;
     let k = task_at(w, at);
     if !k.is_busy() {
-        return Answer::TaskIdle;
+        return Err(Refusal::TaskIdle);
     }
     if !is_sound_by(w) {
-        return Answer::Damaged;
+        return Err(Refusal::Damaged);
     }
     let m = w[120];
     let u = w[121];
     if k.settles() {
         store_task(w, at, k.abandoned(), m, u + 1);
-        return Answer::PutUnsettled;
+        Ok(Answer::PutUnsettled)
+    } else {
+        store_task(w, at, k.abandoned(), m, u);
+        Ok(Answer::Accepted)
     }
-    store_task(w, at, k.abandoned(), m, u);
-    Answer::Accepted
+}
+
+fn abandon_asked(t: &[u32], w: &mut [u32], i: u32) -> Result<Answer, Unasked>
+    ensures { told (number_asked result) 0 t.now w.new ≡ abandon_told t.now w.old i }
+{
+    let Some(w) = w.as_mut_array() else {
+        return Err(Unasked::NoState);
+    };
+    if !is_state(w) {
+        return Err(Unasked::NoState);
+    }
+    Ok(answered(given_up(t, w, i)))
 }
 
 pub fn tiebeamer_abandon(table: &[u32], state: &mut [u32], task: u32) -> u32
     ensures { told result 0 table.now state.new ≡ abandon_told table.now state.old task }
 {
-    if !is_state(state) {
-        return 50;
-    }
-    let a = abandon_by(table, state, task);
-    number_of(a)
+    number_asked(abandon_asked(table, state, task))
+}
+
+// The slots that the entry does not reach are set to zero; the state stays.
+fn tidy_asked(t: &mut [u32], w: &[u32]) -> Result<Answer, Unasked>
+    ensures { told (number_asked result) 0 t.new w.now ≡ tidy_told t.old w.now }
+{
+    let st = known(w)?;
+    Ok(tidy(t, st).answer)
 }
 
 pub fn tiebeamer_tidy(table: &mut [u32], state: &mut [u32]) -> u32
     ensures { told result 0 table.new state.new ≡ tidy_told table.old state.old }
 {
-    let g = read_state(state);
-    if !g.fine {
-        return 50;
-    }
-    let st = g.state;
-    let o = tidy(table, st);
-    let a = o.answer;
-    number_of(a)
+    number_asked(tidy_asked(table, state))
 }
 
 // The figures, in their order.
@@ -361,35 +419,35 @@ fn put_figures(places: &mut [u32; 7], f: Figures)
     *places = [f.height, f.level, f.c, f.m, f.fares, f.free, f.allowed];
 }
 
+// Refused figures write nothing.
+fn figures_asked(t: &[u32], w: &[u32], places: &mut [u32; 7]) -> Result<Answer, Unasked>
+    ensures { shown (number_asked result) places.new ≡ figures_shown t.now w.now places.old }
+{
+    let st = known(w)?;
+    let r = figures(t, st);
+    if u32::from(r.answer) == 0 {
+        put_figures(places, r.figures);
+    }
+    Ok(r.answer)
+}
+
 // Height, level records, c, m, fares, free slots and the allowed rank.
 pub fn tiebeamer_figures(table: &[u32], state: &[u32], places: &mut [u32; 7]) -> u32
     ensures { shown result places.new ≡ figures_shown table.now state.now places.old }
 {
-    let g = read_state(state);
-    if !g.fine {
-        return 50;
-    }
-    let st = g.state;
-    let r = figures(table, st);
-    let a = r.answer;
-    let n = number_of(a);
-    if n != 0 {
-        return n;
-    }
-    let f = r.figures;
-    put_figures(places, f);
-    0
+    number_asked(figures_asked(table, state, places))
+}
+
+fn list_asked(t: &[u32], w: &[u32], room: &mut [u32]) -> Result<Answer, Unasked>
+    ensures { shown (number_asked result) room.new ≡ list_shown t.now w.now room.old }
+{
+    let st = known(w)?;
+    Ok(list(t, st, room))
 }
 
 // Number and price of each fare, into the room lent.
 pub fn tiebeamer_list(table: &[u32], state: &[u32], room: &mut [u32]) -> u32
     ensures { shown result room.new ≡ list_shown table.now state.now room.old }
 {
-    let g = read_state(state);
-    if !g.fine {
-        return 50;
-    }
-    let st = g.state;
-    let a = list(table, st, room);
-    number_of(a)
+    number_asked(list_asked(table, state, room))
 }

@@ -1,19 +1,28 @@
-use Rattle.std.proofs.Common.{◌∙◌, sym, ap, not, arith}
-use Rattle.statecode.proofs.Own.{own-length}
-use Rattle.callfile.proofs.Rows.{run_ends, run_more, run_on}
+use Rattle.std.proofs.Common.{◌≡◌, ◌+◌, ◌-◌, sym, ap, ◌∙◌, arith}
+use Rattle.machine.specs.CallFile.{run_of}
+use Rattle.statecode.specs.Code.{state_by}
 use Rattle.tiebeamer.specs.Numbers.{out_by}
+use Rattle.tiebeamer.proofs.Runs.{run_last, run_ends, run_on}
 use Rattle.tiebeamer.proofs.run_by.Goals as goal
 
-pub returns-then-not-on : goal.returns-then-not-on
-returns-then-not-on c = (run_ends _ _ _ _ (out_by _ _) c.step_by-a.ensures.0 _ c.number_of.ensures _ c.loop-a.invariant.0 (ap not c.if-not-on.true) ∙ sym c.loop-a.invariant.2, c.step_by-a.ensures.1)
+pub returns-then-from-ne0 : goal.returns-then-from-ne0
+returns-then-from-ne0 c = (
+  run_ends _ _ _ _ (out_by _ _) c.step_by-a.ensures.0 (c.args.count - (c.loop.counter - 1)) (omega arith) (λ e. c.if-from-ne0.true (c.from.ensures ∙ e)) ∙ sym c.loop.invariant.0,
+  c.step_by-a.ensures.1,
+)
 
-pub loop-a-preserved : goal.loop-a-preserved
-loop-a-preserved c =
-    let m = run_more _ _ _ _ (out_by _ _) c.step_by-a.ensures.0 _ c.number_of.ensures _ c.loop-a.invariant.0 (ap not c.if-not-on.false) in (
-      omega arith,
-      omega arith,
-      c.loop-a.invariant.2 ∙ run_on _ _ _ _ (out_by _ _) c.step_by-a.ensures.0 _ c.number_of.ensures _ c.loop-a.invariant.0 (ap not c.if-not-on.false),
-      c.step_by-a.auto.t ∙ c.loop-a.invariant.3,
+pub loop-preserved : goal.loop-preserved
+loop-preserved c =
+    let e : c.args.count - (c.loop.counter - 1) - 1 ≡ c.args.count - (c.loop.counter + 1 - 1) = omega arith in (
+      c.loop.invariant.0
+          ∙ run_on _ _ _ _ (out_by _ _) c.step_by-a.ensures.0 (c.args.count - (c.loop.counter - 1)) (omega arith) (sym c.from.ensures ∙ c.if-from-ne0.false)
+          ∙ ap (λ n. run_of n c.step_by-a.new.t (state_by c.step_by-a.new.w) c.args.i) e,
       c.step_by-a.ensures.1,
-      own-length _ c.step_by-a.ensures.1,
+    )
+
+pub returns : goal.returns
+returns c =
+    let e : 1 ≡ c.args.count - (c.loop.counter - 1) = omega arith in (
+      run_last _ _ _ _ (out_by _ _) c.step_by.ensures.0 ∙ ap (λ n. run_of n c.loop.t (state_by c.loop.w) c.args.i) e ∙ sym c.loop.invariant.0,
+      c.step_by.ensures.1,
     )

@@ -1,0 +1,21 @@
+use Rattle.std.proofs.Common.{◌≡◌, false, sym, ap, ◌∙◌, arith}
+use Rattle.std.proofs.lemmas.Grind.{common_steps}
+use Rattle.terms.specs.Task.{begun, is_busy}
+use Rattle.machine.specs.Choice.{if_b}
+use Rattle.machine.specs.State.{task_at, with_task}
+use Rattle.machine.specs.Contract.{after}
+use Rattle.machine.specs.Calls.{begin_of}
+use Rattle.statecode.specs.Code.{state_by}
+use Rattle.tiebeamer.proofs.Begins.{none_path, begun-stored, begun-own}
+use Rattle.tiebeamer.proofs.begun.Goals as goal
+
+pub returns : goal.returns
+unfolding after begin_of if_b
+returns c =
+    let b : c.is_busy.result ≡ is_busy (task_at (state_by c.args.w.now) c.in_ok-at.at).work = c.is_busy.ensures ∙ ap (λ k. is_busy k.work) c.task_at.ensures in
+    let e : state_by c.put_first.new.w ≡ with_task (state_by c.args.w.now) c.in_ok-at.at (begun c.args.o c.args.j) =
+    begun-stored c.args.w.now c.in_ok-at.at c.requires (omega (arith, c.in_ok-at.ensures.placed)) _ b c.if-is_busy.false c.args.o c.args.j _ c.goal_number.ensures _ (none_path _ c.default.ensures) _ c.put_first.ensures in
+    let f : is_busy (task_at (state_by c.args.w.now) c.in_ok-at.at).work ≡ false = sym b ∙ c.if-is_busy.false in (
+      grind (arith, common_steps),
+      begun-own c.args.w.now c.in_ok-at.at c.requires (omega (arith, c.in_ok-at.ensures.placed)) _ b c.if-is_busy.false c.args.o c.args.j _ c.goal_number.ensures _ (none_path _ c.default.ensures) _ c.put_first.ensures,
+    )
