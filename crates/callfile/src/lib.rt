@@ -75,7 +75,7 @@ fn tidies_of(b: &[u8; 12]) -> Call
     }
 }
 
-// The operation that a begin's byte names.
+// The operation that a begin's byte names. by_operation asks for 1 to 3 alone, so it can't fail as Operation's TryFrom may.
 #[tactic(auto, unfolding(machine::specs::CallFile::operation_of, machine::specs::Choice::if_b))]
 pub fn operation_of(o: u32) -> Operation
     ensures { result ≡ operation_of o }
