@@ -241,7 +241,8 @@ fn phase_by(w: &[u32; 15], f: u32) -> Phase
     }
 }
 
-// What 15 numbers read as, whether they are a task's or not.
+// What 15 numbers read as, whether they are a task's or not. By itself it is quick for an idle task.
+#[inline(never)]
 #[tactic(auto, unfolding(crate::specs::Code::task_by, machine::specs::Choice::if_b))]
 fn task_by(w: &[u32; 15]) -> Task
     ensures { result ≡ task_by w.now }
@@ -336,11 +337,11 @@ pub fn is_state(w: &[u32]) -> bool
 pub fn read_state(w: &[u32]) -> Option<State>
     ensures { result ≡ decode w.now }
 {
-    if is_state(w) {
-        Some(state_by(w.as_array()?))
-    } else {
-        None
+    let numbers = w.as_array()?;
+    if !is_state(w) {
+        return None;
     }
+    Some(state_by(numbers))
 }
 
 // Task i of a state.
