@@ -7,10 +7,7 @@ use lib.Dec.{leb, eqb}
 use borrow.Author.Tests.{eq-eqb, ne_eqb, leb-true}
 use Rattle.std.specs.Prelude.{Some, None, Ok, Err}
 use Rattle.std.specs.Result.{IsErrAnd}
-use Rattle.std.specs.declared.option.Option.{Option}
 use Rattle.std.specs.declared.result.Result.{Result}
-use Rattle.tiebeamer.specs.declared.Unasked.{Unasked}
-use Rattle.tiebeamer.specs.declared.Unasked.TheVariants.{NoState}
 use Rattle.machine.proofs.Tests.{both_first}
 use Rattle.terms.specs.declared.Job.{Job}
 use Rattle.terms.specs.declared.Operation.{Operation}

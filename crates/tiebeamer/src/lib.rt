@@ -86,7 +86,7 @@ fn answered(r: Result<Answer, Refusal>) -> Answer
     }
 }
 
-// The table and the state start anew.
+// The table and the state start anew. What `?` hands on of a lent slice says not what the slice becomes, so each call asks for itself.
 fn reset_asked(t: &mut [u32], w: &mut [u32]) -> Result<Answer, Unasked>
     ensures { told (number_asked result) 0 t.new w.new ≡ reset_told t.old w.old }
 {
@@ -106,6 +106,8 @@ pub fn tiebeamer_reset(table: &mut [u32], state: &mut [u32]) -> u32
 {
     number_asked(reset_asked(table, state))
 }
+
+// That the numbers are a state stays a clause: a type that lends them must say in each contract that they are the same ones still.
 
 // Task i begins an operation, or the first refusal that holds. The places 7 to 14 of an idle task are 0 already, so its
 // first seven numbers are enough.
@@ -188,7 +190,8 @@ fn store_turn(w: &mut [u32; 122], i: usize, r: Outcome) -> Answer
 #[tactic(auto, unfolding(machine::specs::Contract::after, machine::specs::Contract::acted, machine::specs::Contract::played, machine::specs::Contract::turned_out, machine::specs::Step::step_work, machine::specs::Step::carried, machine::specs::Choice::if_b))]
 fn step_work(t: &mut SlotsMut, w: &mut [u32; 122], i: usize) -> Result<Answer, Refusal>
     requires { (t.old.n ≡ slots t.old.numbers.now) × (is_state w.old ≡ true) × (i < 8) }
-    ensures { (after t.new.numbers.now (out_by w.new (answered result)) ≡ step_work t.old.numbers.now (state_by w.old) i (task_at (state_by w.old) i).work) × (is_state w.new ≡ true) × SameTable t.old t.new }
+    ensures { (after t.new.numbers.now (out_by w.new (answered result))
+        ≡ step_work t.old.numbers.now (state_by w.old) i (task_at (state_by w.old) i).work) × (is_state w.new ≡ true) × SameTable t.old t.new }
 {
     let Work::Busy(j, f) = task_at(w, i).work else {
         return Err(Refusal::TaskIdle);
@@ -244,7 +247,8 @@ fn store_arrival(w: &mut [u32; 122], i: usize, k: Walker, q: Path, a: Arrival) -
 // A step of task i, which walks. It has no notes before and after, so seven numbers are enough unless the operation ends.
 fn walk_on(t: &Slots, w: &mut [u32; 122], i: usize, k: Walker) -> Result<Answer, Refusal>
     requires { (t.now.n ≡ slots t.now.numbers.now) × Walks w.old i k }
-    ensures { (after t.now.numbers.now (out_by w.new (answered result)) ≡ step_work t.now.numbers.now (state_by w.old) i (task_at (state_by w.old) i).work) × (is_state w.new ≡ true) }
+    ensures { (after t.now.numbers.now (out_by w.new (answered result))
+        ≡ step_work t.now.numbers.now (state_by w.old) i (task_at (state_by w.old) i).work) × (is_state w.new ≡ true) }
 {
     if !(is_sound_by(w) & job_fits(k.job)) {
         return Err(Refusal::Damaged);

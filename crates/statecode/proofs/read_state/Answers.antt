@@ -1,4 +1,4 @@
-use Rattle.std.proofs.Common.{◌≡◌, ◌∙◌, sym, ap, true, false, Some}
+use Rattle.std.proofs.Common.{◌∙◌, sym, ap, Some}
 use Rattle.statecode.specs.Code.{state_by}
 use Rattle.statecode.proofs.Inverse.{state_some, state_none, other_decoded}
 use Rattle.statecode.proofs.read_state.Goals as goal
