@@ -1,7 +1,7 @@
 // Settling: each step chooses by the links noted so far.
 #![tactic(auto, unfolding(machine::specs::Contract::acted, machine::specs::Contract::played, machine::specs::Table::puts, machine::specs::Choice::if_b, machine::specs::Settling::choose_formed, machine::specs::Settling::turn_formed, machine::specs::Settling::read_grand, machine::specs::Settling::read_parent, machine::specs::Settling::read_on, machine::specs::Settling::settle_step, machine::specs::Settling::choose_step, machine::specs::Settling::choose_by, machine::specs::Settling::rotate_step, machine::specs::Settling::rotate_first, machine::specs::Settling::rotate_turn, machine::specs::Settling::rotate_on, machine::specs::Settling::double_step, machine::specs::Settling::double_first, machine::specs::Settling::double_turn))]
 
-ghost use Rattle.std.specs.Prelude.{◌≡◌, ◌-◌, ◌<◌};
+ghost use Rattle.std.specs.Prelude.{◌≡◌, ◌<◌};
 ghost use Rattle.terms.specs.declared.ParentRow.TheVariants.{Wider};
 ghost use Rattle.terms.specs.declared.SettleStage.TheVariants.{SettleChoose, SettleRotate, SettleDouble};
 ghost use Rattle.fields.specs.Writes.{seen, read, Does};

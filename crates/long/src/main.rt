@@ -20,18 +20,10 @@ fn play_file<R: Files + Alloc + Eprint, W: Write>(
     }
 }
 
-fn play_argument<R: Files + AllocGlobal + Eprint, W: Write>(
-    rt: &R,
-    out: &mut W,
-    path: String,
-) -> io::Result<()> {
-    play_file(rt, out, path.as_str())
-}
-
 fn main(rt: HostRuntime) -> io::Result<()> {
     let mut out = LineWriter::new(rt.alloc(), rt.stdout())?;
     for path in env::args(&rt)?.skip(1) {
-        play_argument(&rt, &mut out, path)?;
+        play_file(&rt, &mut out, &path)?;
     }
     out.flush()
 }

@@ -1,9 +1,9 @@
 -- What the loop keeps: the lines that were written, and in front of them those that the rest of the input gives.
-use Rattle.std.proofs.Common.{◌≡◌, ℕ, zero, suc, ◌+◌, ◌<◌, ◌≤◌, Bool, List, [], ◌∷◌, ◌++◌, true, false, length, take, drop, replicate, Some, None, IfSome, Result, Ok, Err, OnOk, not, ◌^◌, refl, sym, ap, subst, ◌∙◌, arith, append_assoc, length-drop}
+use Rattle.std.proofs.Common.{◌≡◌, ℕ, zero, suc, ◌+◌, ◌<◌, ◌≤◌, List, [], ◌∷◌, ◌++◌, length, take, drop, replicate, Some, None, IfSome, Result, Ok, Err, OnOk, ◌^◌, refl, sym, ap, subst, ◌∙◌, arith, append_assoc, length-drop}
 use Rattle.std.specs.declared.option.Option.{Option}
 use Rattle.std.specs.Io.KnownBytes.{Appends, Keeps}
 use Rattle.std.proofs.KnownBytes.{Appends-nil, Appends-trans}
-use Rattle.std.proofs.lemmas.Bool.{ne_eqb, true≢false}
+use Rattle.std.proofs.lemmas.Bool.{ne_eqb}
 use Rattle.terms.specs.declared.State.{State}
 use Rattle.terms.specs.declared.Out.{Out}
 use Rattle.machine.specs.State.{fresh_state}
@@ -45,19 +45,19 @@ in_front l (suc g) p t st (b ∷ bs) =
     let e = one_more g p t st (b ∷ bs) (omega arith) in
     ap (λ ls. bytes_of (l ∷ ls)) e ∙ ap (λ ls. line_bytes l ++ bytes_of ls) (sym e)
 
--- after so many records of bs
+-- before the record at a place
 pub record Going (bs : List ℕ) (place : ℕ) (t : List ℕ) (st : State) (left from to : Option (List ℕ)) : Type 0 where
   pub rest : List ℕ
   pub has : left ≡ Some rest
   pub gas : ℕ
-  pub count : place + gas ≡ length bs
+  pub count : place + gas ≡ length bs + 1
   pub enough : length rest ≤ gas
   pub written : List ℕ
   pub wrote : Appends from to written
-  pub ahead : bytes_of (program_of bs) ≡ written ++ bytes_of (lines_from gas (place + 1) t st rest)
+  pub ahead : bytes_of (program_of bs) ≡ written ++ bytes_of (lines_from gas place t st rest)
 
 -- before the first record
-pub starts : (left from : Option (List ℕ)) (t : List ℕ) (o : Out) → after t o ≡ reset_of (replicate 384 0) fresh_state → IfSome left (λ bs. Going bs 0 t o.state left from from)
+pub starts : (left from : Option (List ℕ)) (t : List ℕ) (o : Out) → after t o ≡ reset_of (replicate 384 0) fresh_state → IfSome left (λ bs. Going bs 1 t o.state left from from)
 unfolding program_of after
 starts None from t o e = tt
 starts (Some bs) from t o e =
@@ -74,15 +74,15 @@ starts (Some bs) from t o e =
 
 -- one more record
 goes_by : (g : ℕ) (bs : List ℕ) (place : ℕ) (t t' : List ℕ) (st st' : State) (rest : List ℕ) (left' from mid to : Option (List ℕ)) (written : List ℕ)
-    → place + g ≡ length bs → length rest ≤ g → Appends from mid written → bytes_of (program_of bs) ≡ written ++ bytes_of (lines_from g (place + 1) t st rest)
-    → 0 < length rest → left' ≡ Some (drop 12 rest) → IsTurned (record_of t st (place + 1) (take 12 rest)) t' st' mid to → Going bs (place + 1) t' st' left' from to
+    → place + g ≡ length bs + 1 → length rest ≤ g → Appends from mid written → bytes_of (program_of bs) ≡ written ++ bytes_of (lines_from g place t st rest)
+    → 0 < length rest → left' ≡ Some (drop 12 rest) → IsTurned (record_of t st place (take 12 rest)) t' st' mid to → Going bs (place + 1) t' st' left' from to
 goes_by zero bs place t t' st st' rest left' from mid to written count enough wrote ahead some has did = absurd (omega arith)
 goes_by (suc g) bs place t t' st st' rest left' from mid to written count enough wrote ahead some has did =
-    let r = record_of t st (place + 1) (take 12 rest) in
-    let after = bytes_of (lines_from g (place + 1 + 1) r.table r.state (drop 12 rest)) in
+    let r = record_of t st place (take 12 rest) in
+    let after = bytes_of (lines_from g (place + 1) r.table r.state (drop 12 rest)) in
     let joined : bytes_of (program_of bs) ≡ (written ++ line_bytes r.line) ++ after =
-    ahead ∙ ap (λ ls. written ++ bytes_of ls) (one_more g (place + 1) t st rest some)
-    ∙ ap (λ l. written ++ l) (in_front r.line g (place + 1 + 1) r.table r.state (drop 12 rest)) ∙ sym (append_assoc written (line_bytes r.line) after) in
+    ahead ∙ ap (λ ls. written ++ bytes_of ls) (one_more g place t st rest some)
+    ∙ ap (λ l. written ++ l) (in_front r.line g (place + 1) r.table r.state (drop 12 rest)) ∙ sym (append_assoc written (line_bytes r.line) after) in
     record {
       rest = drop 12 rest;
       has = has;
@@ -91,23 +91,18 @@ goes_by (suc g) bs place t t' st st' rest left' from mid to written count enough
       enough = rw (length-drop 12 rest) (omega arith);
       written = written ++ line_bytes r.line;
       wrote = Appends-trans from mid to _ _ wrote did.2;
-      ahead = joined ∙ ap (λ u. (written ++ line_bytes r.line) ++ bytes_of (lines_from g (place + 1 + 1) u r.state (drop 12 rest))) (sym did.0)
-          ∙ ap (λ s. (written ++ line_bytes r.line) ++ bytes_of (lines_from g (place + 1 + 1) t' s (drop 12 rest))) (sym did.1);
+      ahead = joined ∙ ap (λ u. (written ++ line_bytes r.line) ++ bytes_of (lines_from g (place + 1) u r.state (drop 12 rest))) (sym did.0)
+          ∙ ap (λ s. (written ++ line_bytes r.line) ++ bytes_of (lines_from g (place + 1) t' s (drop 12 rest))) (sym did.1);
     }
 
-pub goes_on : (bs : List ℕ) (place : ℕ) (t t' : List ℕ) (st st' : State) (left left' from mid to : Option (List ℕ)) → Going bs place t st left from mid
-    → IfSome left (λ xs. Turns xs (place + 1) t st true t' st' left' mid to) → Going bs (place + 1) t' st' left' from to
-goes_on bs place t t' st st' left left' from mid to q h =
-    let turned : Turns q.rest (place + 1) t st true t' st' left' mid to = subst (λ l. IfSome l (λ xs. Turns xs (place + 1) t st true t' st' left' mid to)) q.has h in
-    let did = turned.1 refl in
-    goes_by q.gas bs place t t' st st' q.rest left' from mid to q.written q.count q.enough q.wrote q.ahead did.0 did.1 did.2
-
-pub known_goes_on : (start left left' from mid to : Option (List ℕ)) (place : ℕ) (t t' : List ℕ) (st st' : State) (more : Bool) → not more ≡ false
-    → IfSome start (λ bs. Going bs place t st left from mid) → IfSome left (λ xs. Turns xs (place + 1) t st more t' st' left' mid to)
+pub goes_on : (start left left' from mid to : Option (List ℕ)) (place : ℕ) (t t' : List ℕ) (st st' : State) (next : Option State) → next ≡ Some st'
+    → IfSome start (λ bs. Going bs place t st left from mid) → IfSome left (λ xs. Turns xs place t st next t' left' mid to)
     → IfSome start (λ bs. Going bs (place + 1) t' st' left' from to)
-known_goes_on start left left' from mid to place t t' st st' false e q h = absurd (true≢false e)
-known_goes_on None left left' from mid to place t t' st st' true e q h = tt
-known_goes_on (Some bs) left left' from mid to place t t' st st' true e q h = goes_on bs place t t' st st' left left' from mid to q h
+goes_on None left left' from mid to place t t' st st' next e q h = tt
+goes_on (Some bs) left left' from mid to place t t' st st' next e q h =
+    let some = rw e at h in
+    let did : Turns q.rest place t st (Some st') t' left' mid to = subst (λ l. IfSome l (λ xs. Turns xs place t st (Some st') t' left' mid to)) q.has some in
+    goes_by q.gas bs place t t' st st' q.rest left' from mid to q.written q.count q.enough q.wrote q.ahead did.0 did.1 did.2
 
 -- the figures are all that is to come
 pub record Ended (bs : List ℕ) (t : List ℕ) (st : State) (from to : Option (List ℕ)) : Type 0 where
@@ -118,10 +113,10 @@ pub record Ended (bs : List ℕ) (t : List ℕ) (st : State) (from to : Option (
 ended : (bs : List ℕ) (place : ℕ) (t : List ℕ) (st : State) (left from to : Option (List ℕ)) (q : Going bs place t st left from to) → length q.rest ≡ 0 → Ended bs t st from to
 unfolding bytes_of
 ended bs place t st left from to q none =
-    record { written = q.written; wrote = q.wrote; ahead = q.ahead ∙ ap (λ ls. q.written ++ bytes_of ls) (none_left q.gas (place + 1) t st q.rest none) }
+    record { written = q.written; wrote = q.wrote; ahead = q.ahead ∙ ap (λ ls. q.written ++ bytes_of ls) (none_left q.gas place t st q.rest none) }
 
 -- after as many records as there are places
-pub full : (start left from to : Option (List ℕ)) (place : ℕ) (t : List ℕ) (st : State) → 18446744073709551615 ≤ place
+pub full : (start left from to : Option (List ℕ)) (place : ℕ) (t : List ℕ) (st : State) → 18446744073709551616 ≤ place
     → IfSome start (λ bs. Going bs place t st left from to) → IfSome start (λ bs. length bs < 2 ^ 64 → Ended bs t st from to)
 full None left from to place t st most q = tt
 full (Some bs) left from to place t st most q = λ short.
@@ -130,19 +125,18 @@ full (Some bs) left from to place t st most q = λ short.
     ended bs place t st left from to q (omega arith)
 
 -- after a turn that found no record
-pub over : (start left left' from mid to : Option (List ℕ)) (place : ℕ) (t t' : List ℕ) (st st' : State) (more : Bool) → not more ≡ true
-    → IfSome start (λ bs. Going bs place t st left from mid) → IfSome left (λ xs. Turns xs (place + 1) t st more t' st' left' mid to)
-    → IfSome start (λ bs. length bs < 2 ^ 64 → Ended bs t' st' from to)
-over start left left' from mid to place t t' st st' true e q h = absurd (true≢false (sym e))
-over None left left' from mid to place t t' st st' false e q h = tt
-over (Some bs) left left' from mid to place t t' st st' false e q h = λ short.
-    let turned : Turns q.rest (place + 1) t st false t' st' left' mid to = subst (λ l. IfSome l (λ xs. Turns xs (place + 1) t st false t' st' left' mid to)) q.has h in
-    let did = turned.0 refl in
+pub over : (start left left' from mid to : Option (List ℕ)) (place : ℕ) (t t' : List ℕ) (st : State) (next : Option State) → next ≡ None
+    → IfSome start (λ bs. Going bs place t st left from mid) → IfSome left (λ xs. Turns xs place t st next t' left' mid to)
+    → IfSome start (λ bs. length bs < 2 ^ 64 → Ended bs t' st from to)
+over None left left' from mid to place t t' st next e q h = tt
+over (Some bs) left left' from mid to place t t' st next e q h = λ short.
+    let none = rw e at h in
+    let did : Turns q.rest place t st None t' left' mid to = subst (λ l. IfSome l (λ xs. Turns xs place t st None t' left' mid to)) q.has none in
     let last = ended bs place t st left from mid q did.0 in
     record {
       written = last.written;
-      wrote = Appends-kept from mid to last.written last.wrote did.3;
-      ahead = last.ahead ∙ ap (λ u. last.written ++ end_bytes (last_of u st)) (sym did.1) ∙ ap (λ s. last.written ++ end_bytes (last_of t' s)) (sym did.2);
+      wrote = Appends-kept from mid to last.written last.wrote did.2;
+      ahead = last.ahead ∙ ap (λ u. last.written ++ end_bytes (last_of u st)) (sym did.1);
     }
 
 -- and the figures are written

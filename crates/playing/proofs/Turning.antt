@@ -1,8 +1,7 @@
 -- A turn on known bytes: what was read are the first 12 of them, and the rest stays.
-use Rattle.std.proofs.Common.{◌≡◌, ◌⊎◌, inl, inr, ℕ, ◌<◌, ◌≤◌, List, [], ◌++◌, true, length, take, drop, Some, None, IfSome, sym, ap, subst, ◌∙◌, arith, append-nil, take_all, drop_of_length-le, length-take-le, length-append, ◌+◌}
+use Rattle.std.proofs.Common.{◌≡◌, ◌⊎◌, inl, inr, ℕ, ◌<◌, ◌≤◌, List, [], ◌++◌, length, take, drop, Some, None, IfSome, sym, ap, subst, ◌∙◌, arith, append-nil, take_all, drop_of_length-le, length-take-le, length-append, ◌+◌}
 use Rattle.std.specs.declared.option.Option.{Option}
 use Rattle.std.specs.Io.KnownBytes.{Appends, Consumes, IsAtEnd}
-use Rattle.std.proofs.lemmas.Bool.{true≢false}
 use Rattle.std.proofs.Math.Nat.{eq-or-lt_of_le}
 use Rattle.std.proofs.Math.Seq.{take-append_seam, drop-append_seam}
 use Rattle.terms.specs.declared.State.{State}
@@ -26,7 +25,7 @@ chunk_of k chunk xs ys fits e end = cases (eq-or-lt_of_le fits)
 pub turn_of : (old new from to : Option (List ℕ)) (p n : ℕ) (rec t t' : List ℕ) (st st' : State) (l : List ℕ)
     → 0 < n → n ≤ length rec → length rec ≡ 12 → Consumes old new (take n rec) → (n < length rec → IsAtEnd new)
     → record { table = t'; state = st'; line = l } ≡ record_of t st p (take n rec) → Appends from to (line_bytes l)
-    → IfSome old (λ bs. Turns bs p t st true t' st' new from to)
+    → IfSome old (λ bs. Turns bs p t st (Some st') t' new from to)
 turn_of None new from to p n rec t t' st st' l some fits long read end served wrote = tt
 turn_of (Some xs) None from to p n rec t t' st st' l some fits long read end served wrote = absurd read
 turn_of (Some xs) (Some ys) from to p n rec t t' st st' l some fits long read end served wrote =
@@ -35,4 +34,4 @@ turn_of (Some xs) (Some ys) from to p n rec t t' st st' l some fits long read en
     let split = chunk_of 12 chunk xs ys (omega arith) read (λ h. end (omega arith)) in
     let did : record { table = t'; state = st'; line = l } ≡ record_of t st p (take 12 xs) = served ∙ ap (λ b. record_of t st p b) split.0 in
     let all : length xs ≡ length chunk + length ys = ap length read ∙ length-append chunk ys in
-    (λ e. absurd (true≢false e), λ e. (omega arith, ap Some split.1, (ap (λ r. r.table) did, ap (λ r. r.state) did, subst (λ r. Appends from to (line_bytes r.line)) did wrote)))
+    (omega arith, ap Some split.1, (ap (λ r. r.table) did, ap (λ r. r.state) did, subst (λ r. Appends from to (line_bytes r.line)) did wrote))

@@ -2,9 +2,8 @@
 // of the output are known, what is written is what the definition of the program says.
 #![tactic(auto)]
 
-ghost use Rattle.std.specs.Prelude.{◌≡◌, ◌≤◌, ◌<◌, ◌^◌, ◌∷◌, length, take, OnOk, IfOk, IfSome};
+ghost use Rattle.std.specs.Prelude.{◌≡◌, ◌≤◌, ◌<◌, ◌^◌, length, take, OnOk, IfOk, IfSome};
 ghost use Rattle.std.specs.Io.KnownBytes.{Appends, Consumes, IsAtEnd};
-ghost use Rattle.std.specs.Fmt.{decimal};
 ghost use Rattle.machine.specs.CallFile.{program_of, end_line};
 ghost use Rattle.machine.specs.Calls.{figures_of};
 ghost use Rattle.callfile.specs.Line.{numbers};
@@ -19,7 +18,7 @@ use std::io::{Read, Write};
 use terms::{Figures, State};
 use whole::figures;
 
-// Reads until the buffer is full or the input ends; how many bytes came.
+// Reads until the buffer is full or the input ends; how many bytes came. The library's read_exact fails where the last record is short.
 pub fn read_full<R: Read>(input: &mut R, buf: &mut [u8]) -> io::Result<usize>
     ensures bound { IfOk result (λ n. n ≤ length buf.new) }
     ensures bytes { IfOk result (λ n. Consumes (R.remaining input.old) (R.remaining input.new) (take n buf.new)) }
@@ -27,111 +26,75 @@ pub fn read_full<R: Read>(input: &mut R, buf: &mut [u8]) -> io::Result<usize>
 {
     let mut done: usize = 0;
     while done < buf.len() {
-        let n = input.read(&mut buf[done..])?;
-        if n == 0 {
+        let more = input.read(&mut buf[done..])?;
+        if more == 0 {
             break;
         }
-        done += n;
+        done += more;
     }
     Ok(done)
 }
 
-fn print_first<W: Write>(out: &mut W, n: u64) -> io::Result<()>
-    ensures { OnOk result (Appends (W.contents out.old) (W.contents out.new) (decimal n)) }
-{
-    write!(out, "{n}")
-}
-
-fn print_next<W: Write>(out: &mut W, n: u32) -> io::Result<()>
-    ensures { OnOk result (Appends (W.contents out.old) (W.contents out.new) (32 ∷ decimal n)) }
-{
-    write!(out, " {n}")
-}
-
+#[tactic(auto, unfolding(crate::specs::Text::line_bytes, crate::specs::Text::rest_bytes, callfile::specs::Line::numbers))]
 fn print_line<W: Write>(out: &mut W, l: Line) -> io::Result<()>
     ensures { OnOk result (Appends (W.contents out.old) (W.contents out.new) (line_bytes (numbers l))) }
 {
-    print_first(out, l.place)?;
-    print_next(out, l.operation)?;
-    print_next(out, l.task)?;
-    print_next(out, l.answer)?;
-    print_next(out, l.price)?;
-    out.write_all(b"\n")
+    writeln!(
+        out,
+        "{} {} {} {} {}",
+        l.place, l.operation, l.task, l.answer, l.price
+    )
 }
 
+#[tactic(auto, unfolding(crate::specs::Text::end_bytes, crate::specs::Text::rest_bytes, machine::specs::CallFile::end_line))]
 fn print_end<W: Write>(out: &mut W, f: Figures) -> io::Result<()>
     ensures { OnOk result (Appends (W.contents out.old) (W.contents out.new) (end_bytes (end_line f))) }
 {
-    out.write_all(b"end")?;
-    print_next(out, f.height)?;
-    print_next(out, f.level)?;
-    print_next(out, f.c)?;
-    print_next(out, f.m)?;
-    print_next(out, f.fares)?;
-    print_next(out, f.free)?;
-    print_next(out, f.allowed)?;
-    out.write_all(b"\n")
+    writeln!(
+        out,
+        "end {} {} {} {} {} {} {}",
+        f.height, f.level, f.c, f.m, f.fares, f.free, f.allowed
+    )
 }
 
-#[derive(Clone, Copy)]
-struct After {
-    state: State,
-    more: bool,
-}
-
-// One record: read, served, printed.
+// One record: read, served, printed; the state after it. None where the input has no record left.
 fn turn<R: Read, W: Write>(
     input: &mut R,
     out: &mut W,
     t: &mut [u32; 384],
     st: State,
     place: u64,
-) -> io::Result<After>
-    ensures { IfSome (R.remaining input.old) (λ bs. IfOk result (λ a. Turns bs place t.old st a.more t.new a.state (R.remaining input.new) (W.contents out.old) (W.contents out.new))) }
+) -> io::Result<Option<State>>
+    ensures { IfSome (R.remaining input.old) (λ bs. IfOk result (λ a. Turns bs place t.old st a t.new (R.remaining input.new) (W.contents out.old) (W.contents out.new))) }
 {
-    let mut rec = [0u8; 12];
+    let mut rec = [0; 12];
     let n = read_full(input, &mut rec)?;
     if n == 0 {
-        return Ok(After {
-            state: st,
-            more: false,
-        });
+        return Ok(None);
     }
     let r = serve_record(t, st, place, &rec[..n]);
-    let l = r.line;
-    print_line(out, l)?;
-    let s = r.state;
-    Ok(After {
-        state: s,
-        more: true,
-    })
+    print_line(out, r.line)?;
+    Ok(Some(r.state))
 }
 
 // The figures of the table at the end.
 fn finish<W: Write>(out: &mut W, t: &[u32; 384], st: State) -> io::Result<()>
     ensures { OnOk result (Appends (W.contents out.old) (W.contents out.new) (end_bytes (end_line (figures_of t.now st).figures))) }
 {
-    let r = figures(t, st);
-    let f = r.figures;
-    print_end(out, f)
+    print_end(out, figures(t, st).figures)
 }
 
-// A table of 64 slots is reset, and every record of the input is served. The place counts the records, and the turns: a proved
-// loop has to end.
+// A table of 64 slots is reset, and every record of the input is served. The places count the turns: a proved loop has to end.
 pub fn play<R: Read, W: Write>(input: &mut R, out: &mut W) -> io::Result<()>
     ensures { OnOk result (IfSome (R.remaining input.old) (λ bs. length bs < 2 ^ 64 → Appends (W.contents out.old) (W.contents out.new) (bytes_of (program_of bs)))) }
 {
-    let mut t = [0u32; 384];
-    let o = reset(&mut t, fresh_state());
-    let mut st = o.state;
-    let mut place: u64 = 0;
-    while place < u64::MAX {
-        place += 1;
-        let r = turn(input, out, &mut t, st, place)?;
-        st = r.state;
-        if !r.more {
+    let mut t = [0; 384];
+    let mut st = reset(&mut t, fresh_state()).state;
+    for place in 1..=u64::MAX {
+        let Some(next) = turn(input, out, &mut t, st, place)? else {
             break;
-        }
+        };
+        st = next;
     }
     finish(out, &t, st)
 }

@@ -1,11 +1,11 @@
 // Put-in: its two readings and its commit.
 #![tactic(auto, unfolding(machine::specs::Contract::acted, machine::specs::Contract::played, machine::specs::Table::puts, machine::specs::Choice::if_b, machine::specs::PutIn::put_grounds, machine::specs::PutIn::put_test, machine::specs::PutIn::leaf_of, machine::specs::PutIn::inner_rank, machine::specs::PutIn::put_turn, machine::specs::PutIn::put_writes, machine::specs::PutIn::put_commit, machine::specs::PutIn::put_limit, machine::specs::PutIn::put_room, machine::specs::Table::slot1, machine::specs::Table::slot2, machine::specs::Table::slot3, machine::specs::PutIn::put_step, machine::specs::PutIn::read_put_parent, machine::specs::PutIn::read_put_leaf))]
 
-ghost use Rattle.std.specs.Prelude.{◌≡◌, ◌-◌, ◌<◌, slice_index};
+ghost use Rattle.std.specs.Prelude.{◌≡◌, ◌<◌, slice_index};
 ghost use Rattle.fields.specs.Writes.{read, Writes, Does};
 ghost use Rattle.room.specs.Found.{AllBelow};
 ghost use Rattle.walk.specs.Stopped.{or_calm};
-ghost use Rattle.machine.specs.PutIn.{leaf_of, inner_of, inner_rank, put_grounds, put_test, put_writes, put_turn, put_room, put_commit, put_step};
+ghost use Rattle.machine.specs.PutIn.{leaf_of, inner_of, inner_rank, put_grounds, put_test, put_writes, put_turn, put_commit, put_step};
 
 use fields::{SlotsMut, is_leaf, is_linked, is_still, lead_to, well_formed};
 use room::free_slots;

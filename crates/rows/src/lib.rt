@@ -1,7 +1,7 @@
 // The settling table: which row fits, and the writes of each row. Both mirror forms are one text.
 #![tactic(auto, unfolding(machine::specs::Table::puts, machine::specs::Choice::if_b, machine::specs::Rows::around_of, machine::specs::Rows::parent_row, machine::specs::Rows::level_row, machine::specs::Rows::sided, machine::specs::Rows::link_at, machine::specs::Rows::rotate_writes, machine::specs::Rows::double_writes))]
 
-ghost use Rattle.std.specs.Prelude.{◌≡◌, ◌+◌, ◌-◌, ◌<◌, eqb, slice_index};
+ghost use Rattle.std.specs.Prelude.{◌≡◌, ◌<◌, eqb, slice_index};
 ghost use Rattle.terms.specs.Task.{busy};
 ghost use Rattle.terms.specs.declared.Phase.TheVariants.{Settling};
 ghost use Rattle.fields.specs.Writes.{Writes};
@@ -169,7 +169,8 @@ fn double_z(o: Around, d: Links, z: Rec) -> Rec
 // Double rotation: y on top, x and z below it on their sides.
 pub fn double_writes(t: &mut SlotsMut, r: Rotation, y: Rec, d: Links, slots: [u32; 3])
     requires { (y.rank < 4294967295) × AllBelow t.old.n slots × Inside t.old.n r.path × (r.around.y < t.old.n) }
-    ensures { Writes t.old t.new (double_writes r.path r.around d r.z r.x y (slice_index slots 0) (slice_index slots 1) (slice_index slots 2)) }
+    ensures { Writes t.old t.new
+        (double_writes r.path r.around d r.z r.x y (slice_index slots 0) (slice_index slots 1) (slice_index slots 2)) }
 {
     let [i, k, l] = slots;
     let o = r.around;

@@ -1,7 +1,7 @@
 // Settling: the commits by how many records were read, and the changes by their rows.
 #![tactic(auto, unfolding(machine::specs::Contract::acted, machine::specs::Contract::played, machine::specs::Table::puts, machine::specs::Choice::if_b, machine::specs::Settling::grounds_two, machine::specs::Settling::grounds_three, machine::specs::Settling::grounds_four, machine::specs::Settling::test_two, machine::specs::Settling::test_three, machine::specs::Settling::test_four, machine::specs::Settling::commit_two, machine::specs::Settling::commit_three, machine::specs::Settling::commit_four, machine::specs::Settling::promote_do, machine::specs::Table::slot1, machine::specs::Settling::rotate_do, machine::specs::Table::slot2, machine::specs::Settling::rotate_two_do, machine::specs::Settling::double_do, machine::specs::Table::slot3, machine::specs::Settling::promote_by, machine::specs::Settling::rotate_by, machine::specs::Settling::double_by))]
 
-ghost use Rattle.std.specs.Prelude.{◌≡◌, ◌+◌, ◌-◌, ◌<◌, eqb, IfOk};
+ghost use Rattle.std.specs.Prelude.{◌≡◌, ◌<◌, eqb, IfOk};
 ghost use Rattle.terms.specs.declared.LevelRow.TheVariants.{DoubleRotation};
 ghost use Rattle.machine.specs.Commit.{Did};
 ghost use Rattle.fields.specs.Writes.{seen, read, Does};
@@ -97,7 +97,8 @@ pub fn commit_three(t: &Slots, k: Level, c: Links, e: Chosen) -> Result<(), Turn
 }
 
 pub fn commit_four(t: &Slots, k: Level, c: Links, d: Links, e: Chosen) -> Result<(), Turn>
-    ensures commits { (f : Did) → commit_four (seen t.now) t.now.n k.job k.path k.pz k.z c d (around_of k.path k.pz k.z c).y e.z e.x f ≡ or_stopped f result }
+    ensures commits { (f : Did) →
+        commit_four (seen t.now) t.now.n k.job k.path k.pz k.z c d (around_of k.path k.pz k.z c).y e.z e.x f ≡ or_stopped f result }
     ensures pz_stands { IfOk result (λ u. k.path.grand < t.now.n) }
 {
     let i = k.around(c).y;
@@ -121,7 +122,8 @@ fn settled_on(j: Job) -> Outcome
 // Promote.
 fn promote_do(t: &mut SlotsMut, k: Level, z: Rec) -> Result<Outcome, Turn>
     requires { (k.path.parent < t.old.n) × (k.path.grand < t.old.n) }
-    ensures { Does t.old t.new (or_calm result) (promote_do (read t.old) t.old.n k.job k.path (eqb k.pz.left k.path.parent) k.z z) }
+    ensures { Does t.old t.new (or_calm result)
+        (promote_do (read t.old) t.old.n k.job k.path (eqb k.pz.left k.path.parent) k.z z) }
 {
     if 28 <= z.rank {
         return Err(Turn::Hurt);

@@ -1,7 +1,7 @@
 // Take-out: its four readings and its commit.
 #![tactic(auto, unfolding(machine::specs::Contract::acted, machine::specs::Contract::played, machine::specs::Table::puts, machine::specs::Choice::if_b, machine::specs::TakeOut::take_apart, machine::specs::TakeOut::take_leaf, machine::specs::TakeOut::take_grounds, machine::specs::TakeOut::take_test, machine::specs::TakeOut::take_commit, machine::specs::TakeOut::take_room, machine::specs::Table::slot1, machine::specs::TakeOut::take_step, machine::specs::TakeOut::read_take_grand, machine::specs::TakeOut::read_take_parent, machine::specs::TakeOut::read_take_left, machine::specs::TakeOut::read_take_right))]
 
-ghost use Rattle.std.specs.Prelude.{◌≡◌, ◌-◌, ◌<◌};
+ghost use Rattle.std.specs.Prelude.{◌≡◌, ◌<◌};
 ghost use Rattle.fields.specs.Writes.{read, Writes, Does};
 ghost use Rattle.machine.specs.TakeOut.{take_apart, take_leaf, take_grounds, take_test, take_writes, take_commit, take_step};
 ghost use Rattle.walk.specs.Inside.{Inside};
@@ -73,7 +73,8 @@ fn take_writes(t: &mut SlotsMut, q: Path, left: bool, s: Rec, sibling: u32, x: u
 
 // The commit of a take-out.
 fn take_commit(t: &mut SlotsMut, j: Job, q: Path, noted: Family<Links>) -> Result<Outcome, Turn>
-    ensures { Does t.old t.new (or_calm result) (take_commit (read t.old) t.old.n j q noted.grand noted.parent noted.left noted.right) }
+    ensures { Does t.old t.new (or_calm result)
+        (take_commit (read t.old) t.old.n j q noted.grand noted.parent noted.left noted.right) }
 {
     let now = Family {
         grand: t.at(q.grand),

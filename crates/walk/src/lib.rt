@@ -1,7 +1,7 @@
 // The walk, and a reading: decisions on records by value, and the functions that load the records that they name.
 #![tactic(auto, unfolding(machine::specs::Choice::if_b, crate::specs::Arrived::turn_at, machine::specs::Walk::at_leaf, machine::specs::Walk::serve_arrival, machine::specs::Walk::settle_arrival, machine::specs::Walk::arrival, machine::specs::Walk::walk_to, machine::specs::Walk::walk_from, crate::specs::Arrived::left_to, machine::specs::Walk::walk_on, machine::specs::Commit::reading, machine::specs::Commit::commit_if))]
 
-ghost use Rattle.std.specs.Prelude.{◌≡◌, ◌-◌, ◌<◌, true, IfOk};
+ghost use Rattle.std.specs.Prelude.{◌≡◌, true, IfOk};
 ghost use Rattle.terms.specs.Task.{busy};
 ghost use Rattle.fields.specs.Writes.{seen};
 ghost use Rattle.machine.specs.Walk.{at_leaf, serve_arrival, settle_arrival, arrival, walk_to, walk_from, walk_on};
@@ -122,7 +122,8 @@ fn walk_to(t: &Slots, g: Goal, j: Job, q: Path, p: Rec) -> Arrival
 
 // One step of a walk: it leaves slot s, whose parent is the slot grand.
 pub fn walk_out(t: &Slots, g: Goal, j: Job, grand: u32, s: u32) -> Gone
-    ensures { (turn_at g j (record { grand = grand; parent = s; here = result.to }) result.at ≡ walk_from (seen t.now) t.now.n g j grand s) × (result.to ≡ left_to (seen t.now) t.now.n j.number s) }
+    ensures { (turn_at g j (record { grand = grand; parent = s; here = result.to }) result.at ≡ walk_from (seen t.now) t.now.n g j grand s)
+        × (result.to ≡ left_to (seen t.now) t.now.n j.number s) }
 {
     let p = t.at(s);
     if !well_formed(t.n, s, p) {

@@ -1,12 +1,11 @@
 -- A step that chooses has z and x in the table.
-use Rattle.std.proofs.Common.{rules}
-use Rattle.choosing.proofs.Inside.{x_in, z_in}
+use Rattle.std.proofs.Common.{rules, arith}
+use Rattle.std.proofs.lemmas.Grind.{common_steps}
+use Rattle.machine.specs.Settling.{choose_formed}
+use Rattle.machine.proofs.Tests.{formed-in, linked-in}
 use Rattle.choosing.proofs.choose_row.Goals as goal
 
 pub returns-then-choose_formed : goal.returns-then-choose_formed
-returns-then-choose_formed c = (
-  search rules,
-  search rules,
-  z_in _ _ _ _ _ _ _ _ c.choose_formed.ensures c.if-choose_formed.true c.at-z.ensures,
-  x_in _ _ _ _ _ _ _ _ c.choose_formed.ensures c.if-choose_formed.true c.at-x.ensures,
-)
+unfolding choose_formed
+returns-then-choose_formed c =
+    (search rules, search rules, grind (arith, common_steps, formed-in), grind (arith, common_steps, linked-in))

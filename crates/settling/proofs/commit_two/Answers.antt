@@ -1,6 +1,13 @@
 -- A commit that passes its grounds has pz in the table.
-use Rattle.settling.proofs.Inside.{pz_in_two}
+use Rattle.std.proofs.Common.{arith, ◌≡◌, ◌<◌, true}
+use Rattle.std.proofs.lemmas.Grind.{common_steps}
+use Rattle.std.proofs.lemmas.Result.{IfOk-weaker}
+use Rattle.machine.specs.Settling.{grounds_two}
+use Rattle.machine.proofs.Tests.{formed-in}
 use Rattle.settling.proofs.commit_two.Goals as goal
 
 pub returns-clause-pz_stands : goal.returns-clause-pz_stands
-returns-clause-pz_stands c = pz_in_two _ _ _ _ _ _ _ _ c.at-pz.ensures _ _ c.may_change.ensures.1 c.grounds_two.ensures
+unfolding grounds_two
+returns-clause-pz_stands c =
+    IfOk-weaker c.may_change.result (λ u. c.grounds_two.result ≡ true) (λ u. c.args.k.path.grand < c.args.t.now.n)
+    (λ u e. grind (arith, common_steps, formed-in)) c.may_change.ensures.1
