@@ -12,7 +12,6 @@ use Rattle.std.specs.List.{list_all, count_by}
 use Rattle.std.specs.Simd.{first_chunks}
 use Rattle.std.proofs.lemmas.List.{get_or-take, length-take}
 use Rattle.std.proofs.lemmas.List.Folds.{fold-map}
-use Rattle.std.proofs.lemmas.List.FromFn.{fill_by_all}
 use Rattle.std.proofs.Common.{lit<, cond}
 use Rattle.terms.specs.declared.Task.{Task}
 use Rattle.terms.specs.declared.State.{State}
@@ -290,9 +289,3 @@ unfolding state_by
 rows_settling w =
     sym (fold-map (λ n k. n + cond (work_settles k.work) 1 0) task_by 0 (first_chunks 15 8 w))
     ∙ ap (count_by (λ k. work_settles k.work)) (rows_tasks 8 w) ∙ settling_counted (tasks_by 8 w) (eight-read w)
-
--- eight tasks, each read from its part
-pub tasks_read : (w : List ℕ) (ts : List Task) → length ts ≡ 8 → ((i : ℕ) → i < 8 → get_or ts i idle_task ≡ task_by (take 15 (drop (15 * i) w))) → ts ≡ tasks_by 8 w
-tasks_read w ts h each =
-    fill_by_all (λ i. task_by (take 15 (drop (15 * i) w))) ts 8 idle_task h each
-    ∙ sym (fill_by_all (λ i. task_by (take 15 (drop (15 * i) w))) (tasks_by 8 w) 8 idle_task (eight-read w) (λ i l. task_alone 8 w i l ∙ sym (task_first (drop (15 * i) w))))

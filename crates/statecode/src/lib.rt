@@ -1,10 +1,10 @@
 // A state as 122 numbers, and back (docs/PROBE.md): eight tasks of 15 numbers each, then m, then u.
 #![tactic(auto)]
 
-ghost use Rattle.std.specs.Prelude.{◌≡◌, ◌++◌, ◌+◌, ◌-◌, ◌*◌, ◌≤◌, ◌<◌, length, take, drop, set, true, ℕ, slice_index_or};
+ghost use Rattle.std.specs.Prelude.{◌≡◌, ◌++◌, ◌+◌, ◌-◌, ◌*◌, ◌≤◌, ◌<◌, length, take, drop, set, true};
 ghost use Rattle.std.specs.List.{list_all};
 ghost use Rattle.std.proofs.Math.Seq.{paste};
-ghost use Rattle.terms.specs.Task.{idle_task, work_settles};
+ghost use Rattle.terms.specs.Task.{work_settles};
 ghost use Rattle.machine.specs.State.{settling, sound, task_at};
 ghost use Rattle.statecode.specs.Walking.{walker_of, put_first};
 ghost use Rattle.statecode.specs.Own.{clear_from, own_goal, own_noted, own_by, own_row, storing};
@@ -180,6 +180,7 @@ pub fn goal_by(g: u32) -> Goal
     }
 }
 
+// As with the rows, each stage has a text of its own.
 #[tactic(auto, unfolding(crate::specs::Code::put_by, machine::specs::Choice::if_b))]
 fn put_by(w: &[u32; 15], k: u32) -> PutStage
     ensures { result ≡ put_by w.now k }
@@ -241,16 +242,18 @@ fn phase_by(w: &[u32; 15], f: u32) -> Phase
     }
 }
 
-// What 15 numbers read as, whether they are a task's or not.
+// What 15 numbers read as, whether they are a task's or not. An idle task is handed back at once: one match for both is three times as slow.
+#[inline(never)]
 #[tactic(auto, unfolding(crate::specs::Code::task_by, machine::specs::Choice::if_b))]
 fn task_by(w: &[u32; 15]) -> Task
     ensures { result ≡ task_by w.now }
 {
-    match w[0] {
-        0 => Task::idle(),
-        f => Task {
-            work: Work::Busy(job_by(w), phase_by(w, f)),
-        },
+    let f = w[0];
+    if f == 0 {
+        return Task::idle();
+    }
+    Task {
+        work: Work::Busy(job_by(w), phase_by(w, f)),
     }
 }
 
@@ -260,28 +263,6 @@ fn row_at(w: &[u32; 122], i: usize) -> &[u32; 15]
     ensures { result.now ≡ take 15 (drop (15 * i) w.now) }
 {
     &w.as_chunks::<15>().0[i]
-}
-
-// The tasks of 122 numbers.
-fn tasks_by(w: &[u32; 122]) -> [Task; 8]
-    ensures { (i : ℕ) → i < 8 → slice_index_or result i idle_task ≡ task_by (take 15 (drop (15 * i) w.now)) }
-{
-    let mut tasks = [Task::idle(); 8];
-    for i in 0..8 {
-        tasks[i] = task_by(row_at(w, i));
-    }
-    tasks
-}
-
-// What 122 numbers read as.
-fn state_by(w: &[u32; 122]) -> State
-    ensures { result ≡ state_by w.now }
-{
-    State {
-        tasks: tasks_by(w),
-        m: w[120],
-        u: w[121],
-    }
 }
 
 // Whether all places from one on are 0. A fold asks all of them without a branch, which is faster than `all`.
@@ -358,11 +339,11 @@ pub fn is_state(w: &[u32]) -> bool
 pub fn read_state(w: &[u32]) -> Option<State>
     ensures { result ≡ decode w.now }
 {
-    if is_state(w) {
-        Some(state_by(w.as_array()?))
-    } else {
-        None
+    let numbers = w.as_array()?;
+    if !is_state(w) {
+        return None;
     }
+    Some(state_by(numbers))
 }
 
 // Task i of a state.
@@ -372,6 +353,26 @@ pub fn task_at(w: &[u32; 122], i: usize) -> Task
     ensures { result ≡ task_at (state_by w.now) i }
 {
     task_by(row_at(w, i))
+}
+
+// What 122 numbers read as. Eight tasks are written out: a loop first fills the array with idle ones and copies it, and was slower.
+fn state_by(w: &[u32; 122]) -> State
+    ensures { result ≡ state_by w.now }
+{
+    State {
+        tasks: [
+            task_at(w, 0),
+            task_at(w, 1),
+            task_at(w, 2),
+            task_at(w, 3),
+            task_at(w, 4),
+            task_at(w, 5),
+            task_at(w, 6),
+            task_at(w, 7),
+        ],
+        m: w[120],
+        u: w[121],
+    }
 }
 
 // Whether the task of 15 numbers settles.

@@ -7,10 +7,7 @@ use lib.Dec.{leb, eqb}
 use borrow.Author.Tests.{eq-eqb, ne_eqb, leb-true}
 use Rattle.std.specs.Prelude.{Some, None, Ok, Err}
 use Rattle.std.specs.Result.{IsErrAnd}
-use Rattle.std.specs.declared.option.Option.{Option}
 use Rattle.std.specs.declared.result.Result.{Result}
-use Rattle.tiebeamer.specs.declared.Unasked.{Unasked}
-use Rattle.tiebeamer.specs.declared.Unasked.TheVariants.{NoState}
 use Rattle.machine.proofs.Tests.{both_first}
 use Rattle.terms.specs.declared.Job.{Job}
 use Rattle.terms.specs.declared.Operation.{Operation}
@@ -31,7 +28,7 @@ use Rattle.statecode.specs.Code.{encode, state_by, is_state, decode}
 use Rattle.statecode.proofs.Own.{own-encode}
 use Rattle.statecode.proofs.Inverse.{state_some, state_none}
 use Rattle.tiebeamer.specs.Numbers.{out_by}
-use Rattle.tiebeamer.specs.Interface.{by_state, known, told, as_numbers, reset_told, begin_told, step_told, run_told, abandon_told, tidy_told, shown, report_shown, figures_shown, listed_shown, list_shown}
+use Rattle.tiebeamer.specs.Interface.{told, as_numbers, reset_told, begin_told, step_told, run_told, abandon_told, tidy_told, shown, report_shown, figures_shown, listed_shown, list_shown}
 use Rattle.tiebeamer.proofs.Priceless.{Free, reset-free, begin-free, abandon-free, tidy-free}
 
 -- what a call left and handed back, as numbers
@@ -49,21 +46,6 @@ no-price l t o e f = sym (rw (← e) at f)
 pub err_is : {T E : Type 0} (r : Result T E) (e : E) → IsErrAnd r (λ x. x ≡ e) → r ≡ Err e
 err_is (Ok x) e h = absurd h
 err_is (Err y) e h = rw h refl
-
-unknown_if : (d : Option State) (e : Unasked) → by_state d (Err NoState) Ok ≡ Err e → (d ≡ None) × (e ≡ NoState)
-unknown_if None e h = (refl, cc)
-unknown_if (Some st) e h = absurd (cc)
-
-known_if : (d : Option State) (st : State) → by_state d (Err NoState) Ok ≡ Ok st → d ≡ Some st
-known_if None st h = absurd (cc)
-known_if (Some x) st h = cc
-
--- the numbers are no state, or a state
-pub unknown : (w : List ℕ) (e : Unasked) → known w ≡ Err e → (decode w ≡ None) × (e ≡ NoState)
-unknown w e h = unknown_if (decode w) e h
-
-pub known_is : (w : List ℕ) (st : State) → known w ≡ Ok st → decode w ≡ Some st
-known_is w st h = known_if (decode w) st h
 
 -- whether the numbers lent are a state, as the code asks of 122 of them
 module _ (w v : List ℕ) (same : v ≡ w) (b : Bool) (eb : b ≡ is_state v) where

@@ -40,10 +40,6 @@ abbrev pub by_operation : {A : Type 0} → Result Operation NoOperation → A �
 by_operation (Ok o) x f = f o
 by_operation (Err e) x f = x
 
--- the state of a row of numbers, or the refusal
-abbrev pub known : List ℕ → Result State Unasked
-known w = by_state (decode w) (Err NoState) Ok
-
 -- what a call comes to, as its number
 abbrev pub number_asked : Result Answer Unasked → ℕ
 number_asked (Ok a) = number_of a

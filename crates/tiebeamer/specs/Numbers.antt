@@ -29,6 +29,7 @@ abbrev pub left_on : Option Path → Result (ℕ × ℕ) Refusal
 left_on None = Ok (no_grand, 0)
 left_on (Some q) = if_b (eqb q.here 0) (Err Damaged) (Ok (q.parent, q.here))
 
+-- the same of a walker
 abbrev pub left_by : Walker → Result (ℕ × ℕ) Refusal
 left_by k = left_on k.path
 

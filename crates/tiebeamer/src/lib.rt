@@ -15,7 +15,7 @@ ghost use Rattle.tiebeamer.specs.declared.Unasked.TheVariants as Unasked;
 ghost use Rattle.walk.specs.Arrived.{turn_at};
 ghost use Rattle.machine.specs.State.{one, task_at};
 ghost use Rattle.tiebeamer.specs.Numbers.{answered, out_by, left_by, Walks};
-ghost use Rattle.tiebeamer.specs.Interface.{known, number_refused, number_asked, price_asked, told, reset_told, begin_told, step_told, run_told, abandon_told, tidy_told, shown, figures_shown, list_shown};
+ghost use Rattle.tiebeamer.specs.Interface.{number_refused, number_asked, price_asked, told, reset_told, begin_told, step_told, run_told, abandon_told, tidy_told, shown, figures_shown, list_shown};
 
 use fields::{Slots, SlotsMut, fitting_slots};
 use resetting::reset;
@@ -26,8 +26,7 @@ use statecode::{
 };
 use stepping::phase_step;
 use terms::{
-    Answer, Figures, Goal, Job, NoOperation, Operation, Outcome, Path, Refusal, State, Task, Turn,
-    Work,
+    Answer, Figures, Goal, Job, NoOperation, Operation, Outcome, Path, Refusal, Task, Turn, Work,
 };
 use walk::{Arrival, walk_out};
 use whole::{figures, list, tidy};
@@ -87,21 +86,13 @@ fn answered(r: Result<Answer, Refusal>) -> Answer
     }
 }
 
-// The state of the numbers lent, or 50.
-fn known(w: &[u32]) -> Result<State, Unasked>
-    ensures { result ≡ known w.now }
-{
-    match read_state(w) {
-        Some(st) => Ok(st),
-        None => Err(Unasked::NoState),
-    }
-}
-
-// The table and the state start anew.
+// The table and the state start anew. What `?` hands on of a lent slice says not what the slice becomes, so each call asks for itself.
 fn reset_asked(t: &mut [u32], w: &mut [u32]) -> Result<Answer, Unasked>
     ensures { told (number_asked result) 0 t.new w.new ≡ reset_told t.old w.old }
 {
-    let st = known(w)?;
+    let Some(st) = read_state(w) else {
+        return Err(Unasked::NoState);
+    };
     let Some(w) = w.as_mut_array() else {
         return Err(Unasked::NoState);
     };
@@ -115,6 +106,8 @@ pub fn tiebeamer_reset(table: &mut [u32], state: &mut [u32]) -> u32
 {
     number_asked(reset_asked(table, state))
 }
+
+// That the numbers are a state stays a clause: a type that lends them must say in each contract that they are the same ones still.
 
 // Task i begins an operation, or the first refusal that holds. The places 7 to 14 of an idle task are 0 already, so its
 // first seven numbers are enough.
@@ -197,7 +190,8 @@ fn store_turn(w: &mut [u32; 122], i: usize, r: Outcome) -> Answer
 #[tactic(auto, unfolding(machine::specs::Contract::after, machine::specs::Contract::acted, machine::specs::Contract::played, machine::specs::Contract::turned_out, machine::specs::Step::step_work, machine::specs::Step::carried, machine::specs::Choice::if_b))]
 fn step_work(t: &mut SlotsMut, w: &mut [u32; 122], i: usize) -> Result<Answer, Refusal>
     requires { (t.old.n ≡ slots t.old.numbers.now) × (is_state w.old ≡ true) × (i < 8) }
-    ensures { (after t.new.numbers.now (out_by w.new (answered result)) ≡ step_work t.old.numbers.now (state_by w.old) i (task_at (state_by w.old) i).work) × (is_state w.new ≡ true) × SameTable t.old t.new }
+    ensures { (after t.new.numbers.now (out_by w.new (answered result))
+        ≡ step_work t.old.numbers.now (state_by w.old) i (task_at (state_by w.old) i).work) × (is_state w.new ≡ true) × SameTable t.old t.new }
 {
     let Work::Busy(j, f) = task_at(w, i).work else {
         return Err(Refusal::TaskIdle);
@@ -253,7 +247,8 @@ fn store_arrival(w: &mut [u32; 122], i: usize, k: Walker, q: Path, a: Arrival) -
 // A step of task i, which walks. It has no notes before and after, so seven numbers are enough unless the operation ends.
 fn walk_on(t: &Slots, w: &mut [u32; 122], i: usize, k: Walker) -> Result<Answer, Refusal>
     requires { (t.now.n ≡ slots t.now.numbers.now) × Walks w.old i k }
-    ensures { (after t.now.numbers.now (out_by w.new (answered result)) ≡ step_work t.now.numbers.now (state_by w.old) i (task_at (state_by w.old) i).work) × (is_state w.new ≡ true) }
+    ensures { (after t.now.numbers.now (out_by w.new (answered result))
+        ≡ step_work t.now.numbers.now (state_by w.old) i (task_at (state_by w.old) i).work) × (is_state w.new ≡ true) }
 {
     if !(is_sound_by(w) & job_fits(k.job)) {
         return Err(Refusal::Damaged);
@@ -401,7 +396,9 @@ pub fn tiebeamer_abandon(table: &[u32], state: &mut [u32], task: u32) -> u32
 fn tidy_asked(t: &mut [u32], w: &[u32]) -> Result<Answer, Unasked>
     ensures { told (number_asked result) 0 t.new w.now ≡ tidy_told t.old w.now }
 {
-    let st = known(w)?;
+    let Some(st) = read_state(w) else {
+        return Err(Unasked::NoState);
+    };
     Ok(tidy(t, st).answer)
 }
 
@@ -423,7 +420,9 @@ fn put_figures(places: &mut [u32; 7], f: Figures)
 fn figures_asked(t: &[u32], w: &[u32], places: &mut [u32; 7]) -> Result<Answer, Unasked>
     ensures { shown (number_asked result) places.new ≡ figures_shown t.now w.now places.old }
 {
-    let st = known(w)?;
+    let Some(st) = read_state(w) else {
+        return Err(Unasked::NoState);
+    };
     let r = figures(t, st);
     if u32::from(r.answer) == 0 {
         put_figures(places, r.figures);
@@ -441,7 +440,9 @@ pub fn tiebeamer_figures(table: &[u32], state: &[u32], places: &mut [u32; 7]) ->
 fn list_asked(t: &[u32], w: &[u32], room: &mut [u32]) -> Result<Answer, Unasked>
     ensures { shown (number_asked result) room.new ≡ list_shown t.now w.now room.old }
 {
-    let st = known(w)?;
+    let Some(st) = read_state(w) else {
+        return Err(Unasked::NoState);
+    };
     Ok(list(t, st, room))
 }
 

@@ -1,18 +1,13 @@
 use Rattle.std.proofs.Common.{◌∙◌, sym, ap, Some}
-use Rattle.statecode.specs.Code.{state_by, decode}
-use Rattle.machine.specs.Choice.{if_b}
-use Rattle.statecode.proofs.Own.{own-length}
+use Rattle.statecode.specs.Code.{state_by}
+use Rattle.statecode.proofs.Inverse.{state_some, state_none, other_decoded}
 use Rattle.statecode.proofs.read_state.Goals as goal
 
-pub returns-in_err-as_array : goal.returns-in_err-as_array
-returns-in_err-as_array c = absurd (c.in_err-as_array.ensures.cases (own-length c.args.w.now (sym c.is_state.ensures ∙ c.if-is_state.true)))
+pub returns-in_err-numbers : goal.returns-in_err-numbers
+returns-in_err-numbers c = rw c.from_residual.ensures (sym (other_decoded _ c.in_err-numbers.ensures.cases))
 
-pub returns-in_ok-as_array : goal.returns-in_ok-as_array
-unfolding decode if_b
-returns-in_ok-as_array c =
-    rw (sym c.is_state.ensures ∙ c.if-is_state.true)
-    (ap Some (c.state_by.ensures ∙ ap state_by c.in_ok-as_array.ensures.cases.same))
+pub returns-then-not-is_state : goal.returns-then-not-is_state
+returns-then-not-is_state c = sym (state_none _ (sym c.is_state.ensures ∙ c.if-not-is_state.true))
 
-pub returns-else-is_state : goal.returns-else-is_state
-unfolding decode if_b
-returns-else-is_state c = rw (sym c.is_state.ensures ∙ c.if-is_state.false)
+pub returns : goal.returns
+returns c = ap Some (c.state_by.ensures ∙ ap state_by c.in_ok-numbers.ensures.cases.same) ∙ sym (state_some _ (sym c.is_state.ensures ∙ c.if-not-is_state.false))

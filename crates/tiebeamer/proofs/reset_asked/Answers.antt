@@ -1,17 +1,13 @@
-use Rattle.std.proofs.Common.{sym, ◌∙◌, ◌≡◌, None}
-use Rattle.statecode.specs.Code.{decode}
+use Rattle.std.proofs.Common.{sym, ◌∙◌}
 use Rattle.statecode.proofs.Inverse.{other_decoded}
-use Rattle.tiebeamer.specs.declared.Unasked.TheVariants.{NoState}
-use Rattle.tiebeamer.proofs.Rows.{err_is, unknown, known_is, reset-none, reset-made}
+use Rattle.tiebeamer.proofs.Rows.{reset-none, reset-made}
 use Rattle.tiebeamer.proofs.reset_asked.Goals as goal
 
-pub returns-in_err-st : goal.returns-in_err-st
-returns-in_err-st c =
-    let z : (decode c.args.w.now ≡ None) × (c.in_err-st.field-0.0 ≡ NoState) = unknown c.args.w.now _ (sym c.known.ensures ∙ c.in_err-st.was) in
-    rw (err_is c.from_residual.result c.in_err-st.field-0.0 c.from_residual.ensures.1, z.1) (reset-none c.args.t.now c.args.w.now z.0)
+pub returns-in_default : goal.returns-in_default
+returns-in_default c = reset-none c.args.t.now c.args.w.now (sym c.read_state.ensures ∙ c.in_default.is)
 
 pub returns : goal.returns
-returns c = reset-made c.args.t.now c.args.w.now c.in_ok-st.st (known_is _ _ (sym c.known.ensures ∙ c.in_ok-st.was)) _ c.reset-o.result _ c.write_state.ensures c.reset-o.ensures
+returns c = reset-made c.args.t.now c.args.w.now c.in-Some.st (sym c.read_state.ensures ∙ c.in-Some.is) _ c.reset-o.result _ c.write_state.ensures c.reset-o.ensures
 
-pub returns-in_default : goal.returns-in_default
-returns-in_default c = reset-none c.args.t.now c.args.w.now (other_decoded _ c.in_default.ensures.cases)
+pub returns-in_default-as_mut_array : goal.returns-in_default-as_mut_array
+returns-in_default-as_mut_array c = reset-none c.args.t.now c.args.w.now (other_decoded _ c.in_default-as_mut_array.ensures.cases)
