@@ -3,7 +3,8 @@
 
 ghost use Rattle.std.specs.Prelude.{◌≡◌, ◌&&◌, not, ◌+◌, ◌-◌, ◌*◌, ◌≤◌, ◌<◌, length};
 ghost use Rattle.machine.specs.Contract.{after};
-ghost use Rattle.machine.specs.CallFile.{job_of, no_job, begins, steps, abandons, tidies, operation_of, by_operation, decode, run_of, serve, printed, line_of, record_of};
+ghost use Rattle.machine.specs.CallFile.{job_of, no_job, begins, steps, abandons, tidies, operation_of, by_operation, decode, run_of, serve, printed};
+ghost use Rattle.machine.specs.CallFile.{line_of, record_of};
 ghost use Rattle.callfile.specs.Line.{numbers, served};
 
 use beginning::{abandon, begin};
@@ -146,7 +147,7 @@ fn serve_call(t: &mut [u32], st: State, c: Call) -> Out
     }
 }
 
-// The numbers of a printed line.
+// The numbers of a printed line. Operation and answer are the numbers that print: a bad record's byte names no operation.
 #[derive(Clone, Copy)]
 pub struct Line {
     pub place: u64,

@@ -33,6 +33,7 @@ fn turn_formed(n: u32, o: Around, y: Rec, w: Rec) -> bool
 }
 
 // z, x and s must be there.
+#[inline(always)]
 fn choose_row(t: &Slots, k: Level) -> Result<Chosen, Turn>
     ensures { Choosing (seen t.now) t.now.n k.path k.z result }
 {

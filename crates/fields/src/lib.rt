@@ -3,7 +3,8 @@
 #![tactic(auto)]
 
 ghost use Rattle.std.specs.Prelude.{◌≡◌, ◌+◌, ◌-◌, ◌*◌, ◌/◌, ◌≤◌, ◌<◌, length, ◌&&◌, ◌||◌, true, false, IfOk, IfErr};
-ghost use Rattle.machine.specs.Record.{fare_marks, inner_marks, is_link, is_inner, entry_form, in_tree, sentinel, is_leaf, well_formed, linked, level, is_fare, leads, links_of, still, other};
+ghost use Rattle.machine.specs.Record.{fare_marks, inner_marks, is_link, is_inner, entry_form, in_tree, sentinel, is_leaf, well_formed, linked};
+ghost use Rattle.machine.specs.Record.{level, is_fare, leads, links_of, still, other};
 ghost use Rattle.machine.specs.Table.{length_fits};
 ghost use Rattle.machine.specs.Walk.{sought, outranks};
 ghost use Rattle.terms.specs.declared.Refusal.TheVariants.{Length};

@@ -5,12 +5,11 @@ use mathlib.Core.List.{List, [], ◌∷◌}
 use mathlib.Core.Logic.{⊎_elim, ◌⊎◌, inl, inr}
 use Prim.Native.Nat.{ℕ, zero, suc, ◌+◌, ◌-◌, ◌*◌, ◌<◌, ◌≤◌}
 use native.Mathlib.Nat.{le_refl, le_trans, add-zero, add-suc, not-suc-le-zero}
-use native.Mathlib.Numerals.{add-one}
 use native.Mathlib.Omega.{arith}
 use borrow.Author.Tests.{le-leb, lt-leb, leb-true, leb-false}
 use lib.Dec.{leb}
 use lib.ListN.{length, get_or, drop}
-use lib.Seq.{drop-cons, get_or-drop}
+use lib.Seq.{get_or-drop}
 use Rattle.machine.specs.Allowed.{fibonacci, fib, at_most, allowed_rank}
 use Rattle.machine.proofs.Fibonacci.{table_is_fib}
 
@@ -27,25 +26,6 @@ at-most_stops x b xs h = simp (at_most, lt-leb x b h)
 at-most_goes : (x b : ℕ) (xs : List ℕ) → x ≤ b → at_most (x ∷ xs) b ≡ suc (at_most xs b)
 unfolding at_most
 at-most_goes x b xs h = simp (at_most, le-leb x b h)
-
-table_length : length fibonacci ≡ 32
-unfolding fibonacci
-table_length = refl
-
--- the same over the table from place i on
-pub count_end : (b : ℕ) → at_most (drop 32 fibonacci) b ≡ 0
-unfolding fibonacci at_most
-count_end b = refl
-
-module _ (b i : ℕ) (h : i < 32) where
-  in_table : i < length fibonacci
-  in_table = rw table_length h
-
-  pub count_stops : b < get_or fibonacci i 0 → at_most (drop i fibonacci) b ≡ 0
-  count_stops l = rw (drop-cons fibonacci i 0 in_table) (at-most_stops _ b _ l)
-
-  pub count_goes : get_or fibonacci i 0 ≤ b → at_most (drop i fibonacci) b ≡ suc (at_most (drop (i + 1) fibonacci) b)
-  count_goes l = rw (drop-cons fibonacci i 0 in_table, add-one i) (at-most_goes _ b _ l)
 
 -- a number of the list that is counted is at most b, the first one that is not counted is above it
 split : (b : Bool) → (b ≡ true) ⊎ (b ≡ false)

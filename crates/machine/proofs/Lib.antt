@@ -8,6 +8,7 @@ pub mod Tests
 pub mod Sound
 pub mod Reach
 pub mod Marks
+pub mod Runs
 pub mod Ride
 pub mod DocumentRides
 pub mod OwnRides

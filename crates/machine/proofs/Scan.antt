@@ -1,12 +1,9 @@
--- The scan for a free slot and the count of free slots, a step at a time.
-use mathlib.Core.Path.{◌≡◌, refl, sym, ◌∙◌}
+-- The scan for a free slot, a step at a time.
+use mathlib.Core.Path.{◌≡◌, sym, ◌∙◌}
 use Prim.Native.Nat.{ℕ, suc, ◌+◌, ◌-◌, ◌≤◌, ◌<◌}
 use native.Mathlib.Omega.{arith}
-use native.Mathlib.Numerals.{add-one}
 use borrow.Author.Tests.{eq-eqb, ne_eqb}
-use lib.Dec.{eqb}
-use Rattle.machine.specs.Choice.{if_b}
-use Rattle.machine.specs.Table.{View, free_from, free, count_free}
+use Rattle.machine.specs.Table.{View, free_from, free}
 
 pub scan_end : (v : View) (n s : ℕ) → n ≤ s → s ≡ free v n s
 unfolding free free_from
@@ -24,11 +21,3 @@ module _ (v : View) (n s : ℕ) (h : s < n) (x : ℕ) (ex : x ≡ (v s).state) w
   scan_miss d =
       let z : n - s ≡ suc (n - (s + 1)) = omega arith in
       rw (z, ne_eqb (v s).state 0 (λ e. d (ex ∙ e)), free_from)
-
-pub count_none : (v : View) → 0 ≡ count_free v 0
-unfolding count_free
-count_none v = refl
-
-pub count_more : (v : View) (k : ℕ) → count_free v (k + 1) ≡ count_free v k + if_b (eqb (v k).state 0) 1 0
-unfolding count_free
-count_more v k = rw (add-one k) refl

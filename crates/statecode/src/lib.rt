@@ -8,7 +8,8 @@ ghost use Rattle.terms.specs.Task.{work_settles};
 ghost use Rattle.machine.specs.State.{settling, sound, task_at};
 ghost use Rattle.statecode.specs.Walking.{walker_of, put_first};
 ghost use Rattle.statecode.specs.Own.{clear_from, own_goal, own_noted, own_by, own_row, storing};
-ghost use Rattle.statecode.specs.Code.{is_state, goal_number, no_links, places, put_row, take_row, settle_row, phase_row, work_row, rows, encode, job_by, path_by, links_by, goal_by, put_by, take_by, settle_by, phase_by, task_by, state_by, decode};
+ghost use Rattle.statecode.specs.Code.{is_state, goal_number, no_links, places, put_row, take_row, settle_row, phase_row, work_row, rows, encode};
+ghost use Rattle.statecode.specs.Code.{job_by, path_by, links_by, goal_by, put_by, take_by, settle_by, phase_by, task_by, state_by, decode};
 
 use terms::{
     Goal, Job, Links, Operation, Path, Phase, PutStage, SettleStage, State, TakeStage, Task, Work,

@@ -4,9 +4,10 @@
 ghost use Rattle.std.specs.Prelude.{◌≡◌};
 ghost use Rattle.terms.specs.Answers.{number_of, price_of, answer_of};
 ghost use Rattle.terms.specs.Operations.{operation_at};
-ghost use Rattle.terms.specs.Task.{idle_task, begun, noted, noted_put, noted_take, noted_settle, noted_phase, goal_of, restarted, abandoned, goal_settles, work_settles, is_busy};
+ghost use Rattle.terms.specs.Task.{idle_task, begun, noted, noted_put, noted_take, noted_settle, noted_phase, goal_of, restarted, abandoned};
+ghost use Rattle.terms.specs.Task.{goal_settles, work_settles, is_busy};
 
-// A slot of the table: six numbers.
+// A slot of the table: six numbers as they stand. The state is no enum, since a damaged slot may hold any number.
 #[derive(Clone, Copy, Default)]
 pub struct Rec {
     pub state: u32,
@@ -24,7 +25,8 @@ pub struct Links {
     pub right: u32,
 }
 
-// The last three records of a walk. `grand` is 4,294,967,295 while there is no grandparent: the parent is the entry.
+// The last three records of a walk. `grand` is 4,294,967,295 while there is no grandparent: the parent is the entry. The definition
+// `no_grand` and the numbers of a state for C say so: no Option.
 #[derive(Clone, Copy, Default)]
 pub struct Path {
     pub grand: u32,
@@ -46,7 +48,7 @@ pub enum Operation {
     TakeOut,
 }
 
-// What a task walks for.
+// What a task walks for. Settling is a goal like the others, which definitions and theorems name: no Option of an operation.
 #[derive(Clone, Copy)]
 pub enum Goal {
     Serve(Operation),
@@ -90,6 +92,7 @@ pub enum Phase {
     Settling(Path, SettleStage),
 }
 
+// Idle or busy are the words of document 01, by which definitions and theorems go: no Option of a pair.
 #[derive(Clone, Copy)]
 pub enum Work {
     Idle,
@@ -159,7 +162,7 @@ pub enum Turn {
     Done(Answer),
 }
 
-// What a step's phase comes to: the task's turn, and whether a put-in committed.
+// What a step's phase comes to: the task's turn, and whether a put-in committed. Each turn may go with a commit, so the flag is no Option.
 #[derive(Clone, Copy)]
 pub struct Outcome {
     pub turn: Turn,
@@ -211,7 +214,7 @@ pub struct Figures {
     pub allowed: u32,
 }
 
-// What figures hands back.
+// What figures hands back. Refused figures are zeros (`Calls.no_report`), as the contract of figures says: no Result.
 #[derive(Clone, Copy)]
 pub struct Report {
     pub answer: Answer,
@@ -228,6 +231,7 @@ pub enum Call {
     Bad,
 }
 
+// Each enum of stages has a text of its own for its next stage: their variants hold their links in fields of their own.
 impl PutStage {
     // The links of the record read are noted.
     pub fn noted(self, l: Links) -> PutStage

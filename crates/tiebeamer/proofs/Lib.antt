@@ -7,4 +7,3 @@ pub mod Walks
 pub mod Begins
 pub mod Unchanged
 pub mod ByNumbers
-pub mod Runs

@@ -2,13 +2,12 @@
 use mathlib.Core.Path.{◌≡◌, refl, sym, ap, ◌∙◌}
 use mathlib.Core.Bool.{Bool, true, false, ◌&&◌}
 use mathlib.Core.List.{List}
-use Prim.Native.Nat.{ℕ, ◌≤◌}
+use Prim.Native.Nat.{ℕ}
 use lib.Dec.{leb, eqb}
-use borrow.Author.Tests.{eq-eqb, ne_eqb, leb-true}
+use borrow.Author.Tests.{eq-eqb, ne_eqb}
 use Rattle.std.specs.Prelude.{Some, None, Ok, Err}
 use Rattle.std.specs.Result.{IsErrAnd}
 use Rattle.std.specs.declared.result.Result.{Result}
-use Rattle.machine.proofs.Tests.{both_first}
 use Rattle.terms.specs.declared.Job.{Job}
 use Rattle.terms.specs.declared.Operation.{Operation}
 use Rattle.terms.specs.declared.NoOperation.{NoOperation}
@@ -164,6 +163,3 @@ module _ (t w : List ℕ) (own : is_state w ≡ true) (t' w' : List ℕ) (a : An
       (i c p : ℕ) → (leb 1 c && leb c 65535) ≡ true → after t' (out_by w' a) ≡ run_of c t (state_by w) i
       → told (number_of a) (price_of a) t' w' ≡ run_told t w i c p
   run-stored i c p g h = run-made t w (state_by w) (state_some w own) t' (out_by w' a) w' stored i c p g h
-
-pub at_least_one : (c : ℕ) → (leb 1 c && leb c 65535) ≡ true → 1 ≤ c
-at_least_one c e = leb-true 1 c (both_first (leb 1 c) (leb c 65535) e)

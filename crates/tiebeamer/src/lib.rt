@@ -15,7 +15,8 @@ ghost use Rattle.tiebeamer.specs.declared.Unasked.TheVariants as Unasked;
 ghost use Rattle.walk.specs.Arrived.{turn_at};
 ghost use Rattle.machine.specs.State.{one, task_at};
 ghost use Rattle.tiebeamer.specs.Numbers.{answered, out_by, left_by, Walks};
-ghost use Rattle.tiebeamer.specs.Interface.{number_refused, number_asked, price_asked, told, reset_told, begin_told, step_told, run_told, abandon_told, tidy_told, shown, figures_shown, list_shown};
+ghost use Rattle.tiebeamer.specs.Interface.{number_refused, number_asked, price_asked, told, reset_told, begin_told, step_told, run_told};
+ghost use Rattle.tiebeamer.specs.Interface.{abandon_told, tidy_told, shown, figures_shown, list_shown};
 
 use fields::{Slots, SlotsMut, fitting_slots};
 use resetting::reset;
@@ -286,16 +287,17 @@ fn step_by(t: &mut [u32], w: &mut [u32; 122], i: u32) -> Answer
 
 // So many steps, as long as they answer 0.
 fn run_by(t: &mut [u32], w: &mut [u32; 122], i: u32, count: u32) -> Answer
-    requires { (is_state w.old ≡ true) × (1 ≤ count) }
+    requires { is_state w.old ≡ true }
     ensures { (after t.new (out_by w.new result) ≡ run_of count t.old (state_by w.old) i) × (is_state w.new ≡ true) }
 {
-    for _ in 1..count {
-        let a = step_by(t, w, i);
+    let mut a = Answer::Accepted;
+    for _ in 0..count {
+        a = step_by(t, w, i);
         if u32::from(a) != 0 {
-            return a;
+            break;
         }
     }
-    step_by(t, w, i)
+    a
 }
 
 fn step_asked(t: &mut [u32], w: &mut [u32], i: u32) -> Result<Answer, Unasked>

@@ -196,6 +196,7 @@ pub fn read_record(k: Task, formed: bool, good: bool, r: Rec) -> Turn
 }
 
 // The reading of slot s, whose noted links must lead on to slot next.
+#[inline(always)]
 pub fn read_leading(t: &Slots, k: Task, s: u32, next: u32) -> Outcome
     ensures { result ≡ calmly (leading_read (seen t.now) t.now.n k s next) }
 {
@@ -205,6 +206,7 @@ pub fn read_leading(t: &Slots, k: Task, s: u32, next: u32) -> Outcome
 }
 
 // The reading of slot s, which a link leads to and which need not lead on.
+#[inline(always)]
 pub fn read_child(t: &Slots, k: Task, s: u32) -> Outcome
     ensures { result ≡ calmly (child_read (seen t.now) t.now.n k s) }
 {

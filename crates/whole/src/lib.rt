@@ -19,6 +19,7 @@ use terms::{Answer, Figures, Out, Refusal, Report, State};
 
 // Every slot that the entry does not reach is set to zero, or 17.
 #[tactic(auto, unfolding(machine::specs::Contract::after, machine::specs::Calls::tidy_reached))]
+#[inline]
 fn sweep(t: &mut SlotsMut, st: State) -> Result<Out, Refusal>
     ensures { (after t.new.numbers.now (or_refused st result) ≡ tidy_reached t.old.numbers.now st (reach t.old.n (read t.old))) × SameTable t.old t.new }
 {
@@ -34,6 +35,7 @@ fn sweep(t: &mut SlotsMut, st: State) -> Result<Out, Refusal>
 
 // The table is swept, or the first refusal that holds.
 #[tactic(auto, unfolding(machine::specs::Contract::after, machine::specs::Calls::tidy_of, machine::specs::Choice::if_b))]
+#[inline]
 fn tidied(t: &mut [u32], st: State) -> Result<Out, Refusal>
     ensures { after t.new (or_refused st result) ≡ tidy_of t.old st }
 {
@@ -55,6 +57,7 @@ pub fn tidy(t: &mut [u32], st: State) -> Out
 }
 
 // What the entry reaches, or 17.
+#[inline]
 fn reached(t: &Slots) -> Result<Below, Refusal>
     ensures { Found (seen t.now) t.now.n result }
 {
@@ -79,6 +82,7 @@ fn figures_out(t: &Slots, st: State, b: Below) -> Figures
 
 // The figures, or the first refusal that holds.
 #[tactic(auto, unfolding(machine::specs::Calls::figures_of, machine::specs::Choice::if_b))]
+#[inline]
 fn counted(t: &[u32], st: State) -> Result<Figures, Refusal>
     ensures { reported result ≡ figures_of t.now st }
 {
@@ -109,6 +113,7 @@ pub fn figures(t: &[u32], st: State) -> Report
 
 // The fares are written into the room lent, or the first refusal that holds.
 #[tactic(auto, unfolding(crate::specs::Whole::listed, machine::specs::Calls::list_of, machine::specs::Choice::if_b))]
+#[inline]
 fn written(t: &[u32], st: State, room: &mut [u32]) -> Result<(), Refusal>
     ensures { listed (answered result) room.new ≡ list_of t.now st room.old }
 {

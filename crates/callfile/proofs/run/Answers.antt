@@ -1,5 +1,5 @@
 use Rattle.std.proofs.Common.{◌∙◌, ◌-◌, ◌+◌, ◌≡◌, sym, suc, arith}
-use Rattle.callfile.proofs.Rows.{goes, run_none, stops}
+use Rattle.machine.proofs.Runs.{goes, run_none, stops}
 use Rattle.callfile.proofs.run.Goals as goal
 
 pub loop-preserved : goal.loop-preserved

@@ -1,7 +1,7 @@
-use Rattle.std.proofs.Common.{◌≡◌, ◌≤◌, true, sym, ◌∙◌, arith}
+use Rattle.std.proofs.Common.{◌≡◌, true, sym, ◌∙◌}
 use Rattle.statecode.specs.Code.{is_state}
 use Rattle.statecode.proofs.Inverse.{state_some, other_decoded}
-use Rattle.tiebeamer.proofs.Rows.{lent-none, lent-own, run_none, run-other, at_least_one, run-stored}
+use Rattle.tiebeamer.proofs.Rows.{lent-none, lent-own, run_none, run-other, run-stored}
 use Rattle.tiebeamer.proofs.run_asked.Goals as goal
 
 pub returns-in_default : goal.returns-in_default
@@ -14,8 +14,7 @@ pub returns-then-not-count : goal.returns-then-not-count
 returns-then-not-count c p = rw c.in-Some.ensures.cases.same (run-other c.args.t.now c.args.w.now _ (state_some _ (lent-own _ _ c.in-Some.ensures.cases.same _ c.is_state.ensures c.if-not-is_state.false)) _ _ p c.if-not-count.true)
 
 pub run_by-requires : goal.run_by-requires
-run_by-requires c =
-    let h : 1 ≤ c.args.count = at_least_one _ c.if-not-count.false in (sym c.is_state.ensures ∙ c.if-not-is_state.false, omega arith)
+run_by-requires c = sym c.is_state.ensures ∙ c.if-not-is_state.false
 
 pub returns : goal.returns
 returns c p =

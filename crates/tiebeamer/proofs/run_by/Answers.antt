@@ -1,28 +1,20 @@
-use Rattle.std.proofs.Common.{◌≡◌, ◌+◌, ◌-◌, sym, ap, ◌∙◌, arith}
-use Rattle.machine.specs.CallFile.{run_of}
-use Rattle.statecode.specs.Code.{state_by}
+use Rattle.std.proofs.Common.{◌∙◌, ◌-◌, ◌+◌, ◌≡◌, sym, suc, arith}
+use Rattle.machine.proofs.Runs.{goes, run_none, stops}
 use Rattle.tiebeamer.specs.Numbers.{out_by}
-use Rattle.tiebeamer.proofs.Runs.{run_last, run_ends, run_on}
 use Rattle.tiebeamer.proofs.run_by.Goals as goal
-
-pub returns-then-from-ne0 : goal.returns-then-from-ne0
-returns-then-from-ne0 c = (
-  run_ends _ _ _ _ (out_by _ _) c.step_by-a.ensures.0 (c.args.count - (c.loop.counter - 1)) (omega arith) (λ e. c.if-from-ne0.true (c.from.ensures ∙ e)) ∙ sym c.loop.invariant.0,
-  c.step_by-a.ensures.1,
-)
 
 pub loop-preserved : goal.loop-preserved
 loop-preserved c =
-    let e : c.args.count - (c.loop.counter - 1) - 1 ≡ c.args.count - (c.loop.counter + 1 - 1) = omega arith in (
-      c.loop.invariant.0
-          ∙ run_on _ _ _ _ (out_by _ _) c.step_by-a.ensures.0 (c.args.count - (c.loop.counter - 1)) (omega arith) (sym c.from.ensures ∙ c.if-from-ne0.false)
-          ∙ ap (λ n. run_of n c.step_by-a.new.t (state_by c.step_by-a.new.w) c.args.i) e,
-      c.step_by-a.ensures.1,
-    )
+    let l : c.args.count - c.loop.counter ≡ suc (c.args.count - (c.loop.counter + 1)) = omega arith in
+    let on = goes _ _ _ _ (out_by _ _) c.step_by-a.ensures.0 _ c.from.ensures _ _ l c.if-from-ne0.false in
+    (on.0, c.loop.invariant.1 ∙ on.1, c.step_by-a.ensures.1)
 
-pub returns : goal.returns
-returns c =
-    let e : 1 ≡ c.args.count - (c.loop.counter - 1) = omega arith in (
-      run_last _ _ _ _ (out_by _ _) c.step_by.ensures.0 ∙ ap (λ n. run_of n c.loop.t (state_by c.loop.w) c.args.i) e ∙ sym c.loop.invariant.0,
-      c.step_by.ensures.1,
+pub returns-after-loop : goal.returns-after-loop
+returns-after-loop c = (run_none _ (out_by _ _) _ _ (omega arith) c.loop.invariant.0 ∙ sym c.loop.invariant.1, c.loop.invariant.2)
+
+pub returns-then-from-ne0 : goal.returns-then-from-ne0
+returns-then-from-ne0 c =
+    let l : c.args.count - c.loop.counter ≡ suc (c.args.count - (c.loop.counter + 1)) = omega arith in (
+      stops _ _ _ _ (out_by _ _) c.step_by-a.ensures.0 _ c.from.ensures _ _ l c.if-from-ne0.true ∙ sym c.loop.invariant.1,
+      c.step_by-a.ensures.1,
     )
