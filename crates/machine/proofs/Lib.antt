@@ -9,6 +9,7 @@ pub mod Sound
 pub mod Reach
 pub mod Marks
 pub mod Runs
+pub mod Operations
 pub mod Ride
 pub mod DocumentRides
 pub mod OwnRides
