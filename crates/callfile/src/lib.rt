@@ -88,7 +88,7 @@ pub fn operation_of(o: u32) -> Operation
     }
 }
 
-// The call by its operation byte.
+// The call by its operation byte, matched with ranges as document 01 asks.
 #[tactic(auto, unfolding(machine::specs::CallFile::by_operation, machine::specs::Choice::if_b))]
 fn by_operation(o: u32, b: &[u8; 12]) -> Call
     ensures { result ≡ by_operation o b.now }
@@ -130,7 +130,7 @@ fn run(t: &mut [u32], st: State, i: u32, count: u32) -> Out
     o
 }
 
-// The call is made.
+// The call is made. It is data, read from a file: a match, no closure.
 #[tactic(auto, unfolding(machine::specs::CallFile::serve, machine::specs::Contract::after))]
 fn serve_call(t: &mut [u32], st: State, c: Call) -> Out
     ensures { after t.new result ≡ serve t.old st c }

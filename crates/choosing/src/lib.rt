@@ -128,7 +128,7 @@ fn double_step(t: &mut SlotsMut, k: Level, c: Links, d: Links) -> Result<Outcome
     promote_by(t, k, e)
 }
 
-// A step of a settling task that stands on a level record.
+// A step of a settling task that stands on a level record. The stage is data of the task.
 pub fn settle_step(t: &mut SlotsMut, j: Job, q: Path, f: SettleStage) -> Outcome
     ensures { Does t.old t.new result (settle_step (read t.old) t.old.n j q f) }
 {

@@ -19,7 +19,7 @@ use terms::{Links, Rec, Refusal};
 pub fn length_fits(l: usize) -> bool
     ensures { result ≡ length_fits l }
 {
-    (l % 6 == 0) & ((48 <= l) & (l <= 24576))
+    (l % 6 == 0) & (48..=24576).contains(&l)
 }
 
 // How many slots a table of so many numbers has.
@@ -75,7 +75,7 @@ fn leaf_marked(r: Rec) -> bool
 fn is_link(n: u32, s: u32) -> bool
     ensures { result ≡ is_link n s }
 {
-    (1 <= s) & (s < n)
+    (1..n).contains(&s)
 }
 
 // Whether a record with links is well formed as an inner one.
@@ -83,7 +83,7 @@ fn is_link(n: u32, s: u32) -> bool
 fn inner_formed(n: u32, r: Rec) -> bool
     ensures { result ≡ (is_inner n r && (sentinel r || inner_marks r)) }
 {
-    let marked = (r.number < 1000000) & ((r.price == 0) & ((1 <= r.rank) & (r.rank <= 28)));
+    let marked = (r.number < 1000000) & ((r.price == 0) & (1..=28).contains(&r.rank));
     let linked = is_link(n, r.left) & (is_link(n, r.right) & (r.left != r.right));
     linked & (is_sentinel(r) | marked)
 }

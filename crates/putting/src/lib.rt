@@ -124,7 +124,7 @@ fn put_commit(
     })
 }
 
-// A step of a put-in that has walked: the reading of the parent, that of the leaf, the commit.
+// A step of a put-in that has walked: the reading of the parent, that of the leaf, the commit. The stage is data of the task.
 pub fn put_step(t: &mut SlotsMut, m: u32, j: Job, q: Path, s: PutStage) -> Outcome
     ensures { Does t.old t.new result (put_step (read t.old) t.old.n m j q s) }
 {

@@ -1,8 +1,7 @@
 -- The lowest free slots, one after another.
-use Rattle.std.proofs.Common.{◌≡◌, ℕ, zero, suc, ◌+◌, ◌-◌, ◌≤◌, ◌<◌, Bool, true, false, List, [], ◌∷◌, ◌++◌, take, set, length, refl, sym, ap, ◌∙◌, arith, eqb}
+use Rattle.std.proofs.Common.{◌≡◌, ℕ, zero, suc, ◌+◌, ◌-◌, ◌≤◌, ◌<◌, Bool, true, false, List, [], ◌∷◌, ◌++◌, refl, arith, eqb}
 use Rattle.std.proofs.Math.Nat.{zero-add, suc-add}
-use Rattle.std.proofs.Math.Seq.{take-suc-set}
-use Rattle.machine.specs.Table.{View, free, free_from}
+use Rattle.machine.specs.Table.{View, free, free_from, slot1, slot2, slot3}
 use Rattle.room.specs.Found.{behind, lowest, AllBelow}
 
 -- the scan goes up
@@ -37,3 +36,18 @@ too_few v n k i from h e f =
 pub below_more : (n : ℕ) (xs : List ℕ) (s : ℕ) → AllBelow n xs → s < n → AllBelow n (xs ++ s ∷ [])
 below_more n [] s a h = (h, tt)
 below_more n (x ∷ xs) s a h = (a.0, below_more n xs s a.1 h)
+
+-- the definition's first, second and third slot are the three lowest
+pub three_lowest : (v : View) (n : ℕ) → lowest v n 3 ≡ slot1 v n ∷ slot2 v n ∷ slot3 v n ∷ []
+unfolding slot1 slot2 slot3
+three_lowest v n = refl
+
+-- where there are not three, the third is at or past n
+pub none_third : (v : View) (n : ℕ) → n < behind v n 3 → n ≤ slot3 v n
+unfolding slot1 slot2 slot3
+none_third v n h = omega arith
+
+-- each slot is past the one before
+pub slots_rise : (v : View) (n k : ℕ) → free v n (behind v n k) < free v n (behind v n (suc k))
+unfolding free
+slots_rise v n k = let h = later v (n - behind v n (suc k)) (behind v n (suc k)) in omega arith

@@ -8,7 +8,7 @@ ghost use Rattle.room.specs.Found.{Found, FreeSlots};
 
 use fields::Slots;
 
-// The lowest free slot from a slot on; at or past the end there is none.
+// The lowest free slot from a slot on; at or past the end there is none. Document 01 names this form: the loop yields the slot by break.
 #[tactic(auto, using(machine::proofs::Scan::scan_end, machine::proofs::Scan::scan_hit, machine::proofs::Scan::scan_miss))]
 fn free_from(t: &Slots, from: u32) -> Option<u32>
     requires { from ≤ 4096 }

@@ -1,12 +1,12 @@
 // The settling table: which row fits, and the writes of each row. Both mirror forms are one text.
 #![tactic(auto, unfolding(machine::specs::Table::puts, machine::specs::Choice::if_b, machine::specs::Rows::around_of, machine::specs::Rows::parent_row, machine::specs::Rows::level_row, machine::specs::Rows::sided, machine::specs::Rows::link_at, machine::specs::Rows::rotate_writes, machine::specs::Rows::double_writes))]
 
-ghost use Rattle.std.specs.Prelude.{◌≡◌, ◌<◌, eqb, slice_index};
+ghost use Rattle.std.specs.Prelude.{◌≡◌, ◌-◌, ◌<◌, eqb, slice_index};
 ghost use Rattle.terms.specs.Task.{busy};
 ghost use Rattle.terms.specs.declared.Phase.TheVariants.{Settling};
 ghost use Rattle.fields.specs.Writes.{Writes};
 ghost use Rattle.machine.specs.Record.{other};
-ghost use Rattle.machine.specs.Rows.{parent_row, level_row, sided, link_at, around_of, promote_writes, rotate_writes, double_x, double_z, double_writes};
+ghost use Rattle.machine.specs.Rows.{parent_row, level_row, sided, link_at, around_of, promote_writes, rotate_writes, double_writes};
 ghost use Rattle.room.specs.Found.{AllBelow};
 ghost use Rattle.walk.specs.Inside.{Inside};
 
@@ -141,32 +141,14 @@ pub fn rotate_writes(t: &mut SlotsMut, r: Rotation, rx: u32, rz: u32, slots: [u3
     t.lead(r.path.grand, o.high, i);
 }
 
-// The new x and z of a double rotation; d are y's links.
-fn double_x(o: Around, d: Links, x: Rec) -> Rec
-    ensures { result ≡ double_x o d x }
+// A record of a double rotation that goes down one rank, with the links near and far.
+fn lowered(o: Around, r: Rec, near: u32, far: u32) -> Rec
+    ensures { result ≡ sided o.side r.number (r.rank - 1) near far }
 {
-    sided_record(
-        o.side,
-        x.number,
-        x.rank.saturating_sub(1),
-        o.w,
-        link_at(o.side, d),
-    )
+    sided_record(o.side, r.number, r.rank.saturating_sub(1), near, far)
 }
 
-fn double_z(o: Around, d: Links, z: Rec) -> Rec
-    ensures { result ≡ double_z o d z }
-{
-    sided_record(
-        o.side,
-        z.number,
-        z.rank.saturating_sub(1),
-        link_at(!o.side, d),
-        o.s,
-    )
-}
-
-// Double rotation: y on top, x and z below it on their sides.
+// Double rotation: y on top, x and z below it on their sides; d are y's links.
 pub fn double_writes(t: &mut SlotsMut, r: Rotation, y: Rec, d: Links, slots: [u32; 3])
     requires { (y.rank < 4294967295) × AllBelow t.old.n slots × Inside t.old.n r.path × (r.around.y < t.old.n) }
     ensures { Writes t.old t.new
@@ -174,8 +156,8 @@ pub fn double_writes(t: &mut SlotsMut, r: Rotation, y: Rec, d: Links, slots: [u3
 {
     let [i, k, l] = slots;
     let o = r.around;
-    let near = double_x(o, d, r.x);
-    let far = double_z(o, d, r.z);
+    let near = lowered(o, r.x, o.w, link_at(o.side, d));
+    let far = lowered(o, r.z, link_at(!o.side, d), o.s);
     let (left, right) = if o.side { (near, far) } else { (far, near) };
     t.fill(i, inner_of(y.number, y.rank + 1, k, l));
     t.fill(k, left);

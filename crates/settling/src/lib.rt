@@ -35,7 +35,7 @@ pub struct Turning {
     pub y: Rec,
 }
 
-// The grounds of 17 before the test, by how many records were read.
+// The grounds of 17 before the test, by how many records were read: as in the definitions, each adds to the one before.
 fn grounds_two(n: u32, k: Level, pz: Rec, e: Chosen) -> bool
     ensures { result ≡ grounds_two n k.path k.pz k.z pz e.z e.x }
 {

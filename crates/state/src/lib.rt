@@ -29,8 +29,8 @@ pub fn count_busy(st: State) -> u32
 pub fn is_sound(st: State) -> bool
     ensures { result ≡ sound st }
 {
-    let all = st.u as u64 + count_settling(st) as u64;
-    (st.m <= 1000000) & (all <= st.m as u64)
+    let all = u64::from(st.u) + u64::from(count_settling(st));
+    (st.m <= 1000000) & (all <= u64::from(st.m))
 }
 
 #[tactic(auto, unfolding(machine::specs::State::job_fits, machine::specs::Record::number_fits, machine::specs::Record::price_fits))]
@@ -115,13 +115,10 @@ pub fn task_place(i: u32) -> Result<usize, Refusal>
 pub fn or_refused(st: State, r: Result<Out, Refusal>) -> Out
     ensures { result ≡ or_refused st r }
 {
-    match r {
-        Ok(o) => o,
-        Err(e) => Out {
-            state: st,
-            answer: e.into(),
-        },
-    }
+    r.unwrap_or_else(|e| Out {
+        state: st,
+        answer: e.into(),
+    })
 }
 
 // After a reset.

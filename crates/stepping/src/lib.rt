@@ -17,7 +17,7 @@ use taking::take_step;
 use terms::{Job, Out, Outcome, Phase, Refusal, State, Work};
 use walk::{calm_turn, walk_from, walk_on};
 
-// The step of a task by its phase; m put-ins are committed.
+// The step of a task by its phase; m put-ins are committed. A phase is data, in the state and in its numbers: a match, no closure.
 #[tactic(auto, unfolding(machine::specs::Contract::acted, machine::specs::Contract::played, machine::specs::Step::phase_step, machine::specs::Choice::if_b, machine::specs::Table::puts))]
 pub fn phase_step(t: &mut SlotsMut, m: u32, j: Job, f: Phase) -> Outcome
     ensures { Does t.old t.new result (phase_step (read t.old) t.old.n m j f) }
@@ -34,7 +34,7 @@ pub fn phase_step(t: &mut SlotsMut, m: u32, j: Job, f: Phase) -> Outcome
 // A step of task i, by what it does.
 #[tactic(auto, unfolding(machine::specs::Contract::after, machine::specs::Step::step_work, machine::specs::Choice::if_b))]
 fn step_work(t: &mut SlotsMut, st: State, i: usize) -> Result<Out, Refusal>
-    requires { (t.old.n ≡ slots t.old.numbers.now) × (i < 8) }
+    requires { i < 8 }
     ensures { (after t.new.numbers.now (or_refused st result) ≡ step_work t.old.numbers.now st i (task_at st i).work) × SameTable t.old t.new }
 {
     let Work::Busy(j, f) = st.tasks[i].work else {

@@ -96,7 +96,7 @@ fn take_commit(t: &mut SlotsMut, j: Job, q: Path, noted: Family<Links>) -> Resul
     Ok(calm_turn(Turn::Done(Answer::TakenOut)))
 }
 
-// A step of a take-out that has walked: the four readings, then the commit.
+// A step of a take-out that has walked: the four readings, then the commit. The stage is data of the task.
 pub fn take_step(t: &mut SlotsMut, j: Job, q: Path, s: TakeStage) -> Outcome
     ensures { Does t.old t.new result (take_step (read t.old) t.old.n j q s) }
 {

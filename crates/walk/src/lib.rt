@@ -231,8 +231,5 @@ pub fn may_change(k: Task, grounds: bool, test: bool) -> Result<(), Turn>
 pub fn or_calm(r: Result<Outcome, Turn>) -> Outcome
     ensures { result ≡ or_calm r }
 {
-    match r {
-        Ok(o) => o,
-        Err(a) => calm_turn(a),
-    }
+    r.unwrap_or_else(calm_turn)
 }

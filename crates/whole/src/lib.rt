@@ -23,6 +23,7 @@ use terms::{Answer, Figures, Out, Refusal, Report, State};
 fn sweep(t: &mut SlotsMut, st: State) -> Result<Out, Refusal>
     ensures { (after t.new.numbers.now (or_refused st result) ≡ tidy_reached t.old.numbers.now st (reach t.old.n (read t.old))) × SameTable t.old t.new }
 {
+    // A mark a slot, on the stack: there is no heap.
     let mut marks = [0; 4096];
     let marks = &mut marks[..t.n as usize];
     reach_all(&t.read(), marks).ok_or(Refusal::Damaged)?;
@@ -61,6 +62,7 @@ pub fn tidy(t: &mut [u32], st: State) -> Out
 fn reached(t: &Slots) -> Result<Below, Refusal>
     ensures { Found (seen t.now) t.now.n result }
 {
+    // A mark a slot, on the stack: there is no heap.
     let mut marks = [0; 4096];
     reach_all(t, &mut marks[..t.n as usize]).ok_or(Refusal::Damaged)
 }

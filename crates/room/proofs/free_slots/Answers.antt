@@ -1,5 +1,5 @@
 -- The slot found is the next one; where there is none, there are not so many.
-use Rattle.std.proofs.Common.{◌≡◌, ◌<◌, ◌+◌, refl, sym, ap, add-one, arith, ◌∙◌, take_all, length-set}
+use Rattle.std.proofs.Common.{◌≡◌, ◌+◌, refl, sym, ap, add-one, arith, ◌∙◌, take_all, length-set}
 use Rattle.std.proofs.Math.Seq.{take-suc-set}
 use Rattle.fields.specs.Writes.{seen}
 use Rattle.machine.specs.Table.{free}

@@ -1,5 +1,5 @@
 -- A busy task's phase is played on the table, and carried out on a state whose counts are small.
-use Rattle.std.proofs.Common.{rules, sym, ◌∙◌}
+use Rattle.std.proofs.Common.{rules, sym, ◌∙◌, arith}
 use Rattle.machine.proofs.Tests.{both_first}
 use Rattle.machine.proofs.Sound.{m_small, u_small}
 use Rattle.stepping.proofs.Carrying.{goes_row}
@@ -13,6 +13,6 @@ turn_out-requires c =
 pub returns : goal.returns
 returns c = (
   goes_row _ _ _ _ _ _ c.in-Busy.is _ c.is_sound.ensures _ c.job_fits.ensures c.if-not-is_sound-job_fits.false
-      _ c.requires.0 _ _ c.phase_step-r.ensures.0 _ c.turn_out.ensures,
+      _ (omega (arith, c.args.t.now.sized.0)) _ _ c.phase_step-r.ensures.0 _ c.turn_out.ensures,
   c.phase_step-r.ensures.1,
 )
