@@ -18,7 +18,7 @@ fn count_at_most(rising: &[u32], b: u32) -> usize
     rising.iter().take_while(|&&f| f <= b).count()
 }
 
-// The largest R whose Fibonacci number R + 3 is at most 2m, and 0 for m = 0: R + 3 = 3 stands third.
+// The largest R whose Fibonacci number R + 3 is at most 2m, and 0 for m = 0. The table begins with number 1, so R = 0 stands third.
 pub fn allowed_rank(m: u32) -> u32
     requires { m ≤ 1000000 }
     ensures { result ≡ allowed_rank m }

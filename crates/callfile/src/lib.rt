@@ -30,7 +30,7 @@ fn no_job(b: &[u8; 12]) -> bool
     (four_at(b, 4) == 0) & (four_at(b, 8) == 0)
 }
 
-// A begin: its count is not used.
+// A begin: its count is not used, so it must be 0.
 #[tactic(auto, unfolding(machine::specs::CallFile::begins, machine::specs::Choice::if_b))]
 fn begins_of(b: &[u8; 12], o: Operation) -> Call
     ensures { result ≡ begins b.now o }

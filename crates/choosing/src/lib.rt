@@ -32,7 +32,7 @@ fn turn_formed(n: u32, o: Around, y: Rec, w: Rec) -> bool
     is_linked(n, o.y, y) & is_linked(n, o.w, w)
 }
 
-// z, x and s must be there.
+// The row of z and s, with the records of z and x; 17 where one of the three is not there.
 #[inline(always)]
 fn choose_row(t: &Slots, k: Level) -> Result<Chosen, Turn>
     ensures { Choosing (seen t.now) t.now.n k.path k.z result }
@@ -51,7 +51,7 @@ fn choose_row(t: &Slots, k: Level) -> Result<Chosen, Turn>
     }
 }
 
-// y and w must be there.
+// The row of x, y and w, with the record of y; 17 where y or w is not there.
 fn turn_row(t: &Slots, o: Around, x: Rec) -> Result<Turning, Turn>
     ensures { Turned (seen t.now) t.now.n o x result }
 {

@@ -143,6 +143,7 @@ pub fn outranks(h: Rec, p: Rec) -> bool
     p.rank < h.rank
 }
 
+// Two of the six numbers, as a reading notes them: no conversion.
 pub fn links_of(r: Rec) -> Links
     ensures { result ≡ links_of r }
 {

@@ -172,7 +172,7 @@ fn answer<W: Write>(alloc: Global, out: &mut W, mut p: Probe) -> io::Result<()> 
     print_numbers(out, "table", &p.table)
 }
 
-// Whether there may be another one.
+// One probe is read and answered; whether another may follow.
 fn turn<R: Read, W: Write>(alloc: Global, input: &mut R, out: &mut W) -> io::Result<bool> {
     let mut b = [0; 28];
     let n = read_full(input, &mut b)?;

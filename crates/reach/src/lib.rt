@@ -25,7 +25,7 @@ pub struct Below {
     pub height: u32,
 }
 
-// Whether a slot has no mark.
+// Whether a slot has no mark. Marks are numbers, as in the definition `reach_from`.
 fn is_unmarked(marks: &[u8], s: u32) -> bool
     ensures { result ≡ eqb (get_or marks.now s 0) 0 }
 {

@@ -77,7 +77,7 @@ impl Level {
     }
 }
 
-// The rows that z and s decide, by their ranks.
+// The rows that z and s decide, by their ranks. A range inside `Some` gets no generated proof: it has a match of its own.
 pub fn parent_row(z: u32, s: u32) -> ParentRow
     ensures { result ≡ parent_row z s }
 {

@@ -100,7 +100,7 @@ pub fn turn_out(st: State, i: usize, a: Turn, committed: bool) -> Out
     }
 }
 
-// A task's number as its place, or 10.
+// A task's number as its place, or 10. The place is a plain index: that it is below 8 is what indexing eight tasks asks.
 pub fn task_place(i: u32) -> Result<usize, Refusal>
     ensures placed { IfOk result (λ at. (at ≡ i) × (i < 8)) }
     ensures refused { IfErr result (λ e. (7 < i) × (e ≡ TaskNumber)) }

@@ -48,7 +48,7 @@ pub enum Operation {
     TakeOut,
 }
 
-// What a task walks for. Settling is a goal like the others, which definitions and theorems name: no Option of an operation.
+// What a task walks for. Settling is a goal like the others, as in `Walk.arrival` and in the theorems: no Option of an operation.
 #[derive(Clone, Copy)]
 pub enum Goal {
     Serve(Operation),
@@ -92,7 +92,7 @@ pub enum Phase {
     Settling(Path, SettleStage),
 }
 
-// Idle or busy are the words of document 01, by which definitions and theorems go: no Option of a pair.
+// Idle or busy are the words of document 01, by which the definitions `busy`, `step_work` and the theorems go: no Option of a pair.
 #[derive(Clone, Copy)]
 pub enum Work {
     Idle,
@@ -133,7 +133,7 @@ pub enum Answer {
     BadRecord,
 }
 
-// The refusals of document 01, as the error of what can be refused.
+// The refusals of document 01, all ten, as the error of what can be refused.
 #[derive(Clone, Copy)]
 pub enum Refusal {
     TaskNumber,
@@ -162,7 +162,7 @@ pub enum Turn {
     Done(Answer),
 }
 
-// What a step's phase comes to: the task's turn, and whether a put-in committed. Each turn may go with a commit, so the flag is no Option.
+// What a step's phase comes to: the task's turn, and whether a put-in committed. A commit goes with Next and with Done, so the flag is no Option.
 #[derive(Clone, Copy)]
 pub struct Outcome {
     pub turn: Turn,

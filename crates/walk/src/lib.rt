@@ -158,7 +158,7 @@ fn turn_at(g: Goal, j: Job, q: Path, a: Arrival) -> Turn
     }
 }
 
-// The same step as a turn of its task.
+// One step of a walk, as a turn of its task.
 pub fn walk_from(t: &Slots, g: Goal, j: Job, grand: u32, s: u32) -> Turn
     ensures { result ≡ walk_from (seen t.now) t.now.n g j grand s }
 {
@@ -182,7 +182,7 @@ pub fn walk_on(t: &Slots, g: Goal, j: Job, q: Path) -> Turn
     }
 }
 
-// A reading: its links are noted, or the walk starts again.
+// A reading: 17, or its links are noted, or the walk starts again.
 pub fn read_record(k: Task, formed: bool, good: bool, r: Rec) -> Turn
     ensures { result ≡ reading k formed good r }
 {
