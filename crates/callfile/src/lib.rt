@@ -5,9 +5,11 @@ ghost use Rattle.std.specs.Prelude.{◌≡◌, ◌&&◌, not, ◌+◌, ◌-◌, 
 ghost use Rattle.machine.specs.Contract.{after};
 ghost use Rattle.machine.specs.CallFile.{job_of, no_job, begins, steps, abandons, tidies, operation_of, by_operation, decode, run_of, serve, printed};
 ghost use Rattle.machine.specs.CallFile.{line_of, record_of};
-ghost use Rattle.callfile.specs.Line.{numbers, served};
+ghost use Rattle.std.specs.Prelude.{Some};
+ghost use Rattle.callfile.specs.Line.{numbers, served, line_text};
 
 use beginning::{abandon, begin};
+use std::fmt;
 use stepping::step;
 use terms::{Answer, Call, Job, Operation, Out, State};
 use whole::tidy;
@@ -155,6 +157,18 @@ pub struct Line {
     pub task: u32,
     pub answer: u32,
     pub price: u32,
+}
+
+impl fmt::Display for Line {
+    ghost output = { λ l. Some (line_text l) };
+
+    fn fmt<W: fmt::Write>(&self, f: &mut fmt::Formatter<W>) -> fmt::Result {
+        write!(
+            f,
+            "{} {} {} {} {}",
+            self.place, self.operation, self.task, self.answer, self.price
+        )
+    }
 }
 
 // Operation or task as they print: 0 for a short record.

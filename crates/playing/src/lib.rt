@@ -39,22 +39,14 @@ pub fn read_full<R: Read>(input: &mut R, buf: &mut [u8]) -> io::Result<usize>
 fn print_line<W: Write>(out: &mut W, l: Line) -> io::Result<()>
     ensures { OnOk result (Appends (W.contents out.old) (W.contents out.new) (line_bytes (numbers l))) }
 {
-    writeln!(
-        out,
-        "{} {} {} {} {}",
-        l.place, l.operation, l.task, l.answer, l.price
-    )
+    writeln!(out, "{l}")
 }
 
 #[tactic(auto, unfolding(crate::specs::Text::end_bytes, crate::specs::Text::rest_bytes, machine::specs::CallFile::end_line))]
 fn print_end<W: Write>(out: &mut W, f: Figures) -> io::Result<()>
     ensures { OnOk result (Appends (W.contents out.old) (W.contents out.new) (end_bytes (end_line f))) }
 {
-    writeln!(
-        out,
-        "end {} {} {} {} {} {} {}",
-        f.height, f.level, f.c, f.m, f.fares, f.free, f.allowed
-    )
+    writeln!(out, "end {f}")
 }
 
 // One record: read, served, printed; the state after it. None where the input has no record left.

@@ -11,7 +11,7 @@ use std::alloc::Global;
 use std::io;
 use std::io::{BufReader, LineWriter, Read, Write};
 use stepping::step;
-use terms::{Answer, Figures, Job, Operation, Out, State};
+use terms::{Answer, Job, Operation, Out, State};
 use whole::{figures, list, tidy};
 
 // Numbers of a slice, on one line behind a word.
@@ -25,14 +25,6 @@ fn print_numbers<W: Write>(out: &mut W, word: &str, t: &[u32]) -> io::Result<()>
 
 fn print_answer<W: Write>(out: &mut W, a: Answer) -> io::Result<()> {
     writeln!(out, "answer {} {}", u32::from(a), a.price())
-}
-
-fn print_figures<W: Write>(out: &mut W, f: Figures) -> io::Result<()> {
-    writeln!(
-        out,
-        "figures {} {} {} {} {} {} {}",
-        f.height, f.level, f.c, f.m, f.fares, f.free, f.allowed
-    )
 }
 
 fn print_state<W: Write>(out: &mut W, st: State) -> io::Result<()> {
@@ -128,7 +120,7 @@ fn print_out<W: Write>(out: &mut W, o: Out) -> io::Result<State> {
 fn make_figures<W: Write>(out: &mut W, t: &[u32], st: State) -> io::Result<State> {
     let r = figures(t, st);
     print_answer(out, r.answer)?;
-    print_figures(out, r.figures)?;
+    writeln!(out, "figures {}", r.figures)?;
     Ok(st)
 }
 

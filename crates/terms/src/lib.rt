@@ -3,9 +3,13 @@
 
 ghost use Rattle.std.specs.Prelude.{◌≡◌};
 ghost use Rattle.terms.specs.Answers.{number_of, price_of, answer_of};
+ghost use Rattle.std.specs.Prelude.{Some};
 ghost use Rattle.terms.specs.Operations.{operation_at};
+ghost use Rattle.terms.specs.Printed.{figures_text};
 ghost use Rattle.terms.specs.Task.{idle_task, begun, noted, noted_put, noted_take, noted_settle, noted_phase, goal_of, restarted, abandoned};
 ghost use Rattle.terms.specs.Task.{goal_settles, work_settles, is_busy};
+
+use std::fmt;
 
 // A slot of the table: six numbers as they stand. The state is no enum, since a damaged slot may hold any number.
 #[derive(Clone, Copy, Default)]
@@ -441,5 +445,18 @@ impl TryFrom<u32> for Operation {
             3 => Ok(Operation::TakeOut),
             _ => Err(NoOperation { number: n }),
         }
+    }
+}
+
+// The seven figures in their order, with a space between.
+impl fmt::Display for Figures {
+    ghost output = { λ f. Some (figures_text f) };
+
+    fn fmt<W: fmt::Write>(&self, f: &mut fmt::Formatter<W>) -> fmt::Result {
+        write!(
+            f,
+            "{} {} {} {} {} {} {}",
+            self.height, self.level, self.c, self.m, self.fares, self.free, self.allowed
+        )
     }
 }
