@@ -141,25 +141,25 @@ module _ (t w : List ℕ) (st : State) (e : decode w ≡ Some st) where
   list-made l l' a h = rw (e, ← h) refl
 
 -- the same where the state stays in its numbers
-module _ (t w : List ℕ) (own : is_state w ≡ true) (t' w' : List ℕ) (a : Answer) (kept : is_state w' ≡ true) where
+module _ (t w : List ℕ) (own : is_state w ≡ true) (t' w' last : List ℕ) (same : last ≡ w') (a : Answer) (kept : is_state w' ≡ true) where
   abbrev Stored : Type 0
-  Stored = w' ≡ encode (state_by w')
+  Stored = last ≡ encode (state_by w')
 
   stored : Stored
-  stored = sym (own-encode w' kept)
+  stored = same ∙ sym (own-encode w' kept)
 
   pub begin-stored :
       (i o : ℕ) (j : Job) (y : Operation) → operation_at o ≡ Ok y → after t' (out_by w' a) ≡ begin_of t (state_by w) i y j
-      → told (number_of a) 0 t' w' ≡ begin_told t w i o j.number j.price
-  begin-stored i o j y ey h = begin-made t w (state_by w) (state_some w own) t' (out_by w' a) w' stored i o j.number j.price y ey h
+      → told (number_of a) 0 t' last ≡ begin_told t w i o j.number j.price
+  begin-stored i o j y ey h = begin-made t w (state_by w) (state_some w own) t' (out_by w' a) last stored i o j.number j.price y ey h
 
-  pub abandon-stored : (i : ℕ) → after t' (out_by w' a) ≡ abandon_of t (state_by w) i → told (number_of a) 0 t' w' ≡ abandon_told t w i
-  abandon-stored i h = abandon-made t w (state_by w) (state_some w own) t' (out_by w' a) w' stored i h
+  pub abandon-stored : (i : ℕ) → after t' (out_by w' a) ≡ abandon_of t (state_by w) i → told (number_of a) 0 t' last ≡ abandon_told t w i
+  abandon-stored i h = abandon-made t w (state_by w) (state_some w own) t' (out_by w' a) last stored i h
 
-  pub step-stored : (i p : ℕ) → after t' (out_by w' a) ≡ step_of t (state_by w) i → told (number_of a) (price_of a) t' w' ≡ step_told t w i p
-  step-stored i p h = step-made t w (state_by w) (state_some w own) t' (out_by w' a) w' stored i p h
+  pub step-stored : (i p : ℕ) → after t' (out_by w' a) ≡ step_of t (state_by w) i → told (number_of a) (price_of a) t' last ≡ step_told t w i p
+  step-stored i p h = step-made t w (state_by w) (state_some w own) t' (out_by w' a) last stored i p h
 
   pub run-stored :
       (i c p : ℕ) → (leb 1 c && leb c 65535) ≡ true → after t' (out_by w' a) ≡ run_of c t (state_by w) i
-      → told (number_of a) (price_of a) t' w' ≡ run_told t w i c p
-  run-stored i c p g h = run-made t w (state_by w) (state_some w own) t' (out_by w' a) w' stored i c p g h
+      → told (number_of a) (price_of a) t' last ≡ run_told t w i c p
+  run-stored i c p g h = run-made t w (state_by w) (state_some w own) t' (out_by w' a) last stored i c p g h

@@ -1,4 +1,4 @@
-use Rattle.std.proofs.Common.{◌≡◌, true}
+use Rattle.std.proofs.Common.{◌≡◌, true, rules}
 use Rattle.statecode.specs.Code.{is_state}
 use Rattle.statecode.proofs.Inverse.{other_decoded}
 use Rattle.tiebeamer.proofs.Rows.{lent-none, lent-own, abandon-none, abandon-stored}
@@ -13,4 +13,4 @@ returns-then-not-is_state c = rw c.in-Some.ensures.cases.same (abandon-none c.ar
 pub returns : goal.returns
 returns c =
     let own : is_state c.args.w.now ≡ true = lent-own _ _ c.in-Some.ensures.cases.same _ c.is_state.ensures c.if-not-is_state.false in
-    rw c.answered.ensures (abandon-stored c.args.t.now c.args.w.now own _ _ _ c.given_up.ensures.1 _ (rw c.in-Some.ensures.cases.same at c.given_up.ensures.0))
+    rw c.answered.ensures (abandon-stored c.args.t.now c.args.w.now own _ c.given_up.new.w.numbers.now _ (search rules) _ c.given_up.new.w.coded _ (rw c.in-Some.ensures.cases.same at c.given_up.ensures.0))

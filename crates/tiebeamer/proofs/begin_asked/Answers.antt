@@ -1,4 +1,4 @@
-use Rattle.std.proofs.Common.{◌≡◌, true, sym, ◌∙◌}
+use Rattle.std.proofs.Common.{◌≡◌, true, rules, sym, ◌∙◌}
 use Rattle.statecode.specs.Code.{is_state}
 use Rattle.statecode.proofs.Inverse.{state_some, other_decoded}
 use Rattle.tiebeamer.specs.declared.Unasked.TheVariants.{NoCall}
@@ -19,4 +19,4 @@ returns-in_err-o c =
 pub returns : goal.returns
 returns c =
     let own : is_state c.args.w.now ≡ true = lent-own _ _ c.in-Some.ensures.cases.same _ c.is_state.ensures c.if-not-is_state.false in
-    rw c.answered.ensures (begin-stored c.args.t.now c.args.w.now own _ _ _ c.begun.ensures.1 _ _ c.args.j c.in_ok-o.o (sym c.try_from.ensures ∙ c.in_ok-o.was) (rw c.in-Some.ensures.cases.same at c.begun.ensures.0))
+    rw c.answered.ensures (begin-stored c.args.t.now c.args.w.now own _ c.begun.new.w.numbers.now _ (search rules) _ c.begun.new.w.coded _ _ c.args.j c.in_ok-o.o (sym c.try_from.ensures ∙ c.in_ok-o.was) (rw c.in-Some.ensures.cases.same at c.begun.ensures.0))
