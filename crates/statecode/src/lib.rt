@@ -2,6 +2,8 @@
 #![tactic(auto)]
 
 ghost use Rattle.std.specs.Prelude.{◌≡◌, ◌++◌, ◌+◌, ◌-◌, ◌*◌, ◌≤◌, ◌<◌, length, take, drop, set, true};
+ghost use Rattle.std.specs.Prelude.{MatchOption};
+ghost use Rattle.std.specs.Borrow.{sem, LendsIf, Array, u32};
 ghost use Rattle.std.specs.List.{list_all};
 ghost use Rattle.std.proofs.Math.Seq.{paste};
 ghost use Rattle.terms.specs.Task.{work_settles};
@@ -349,6 +351,17 @@ pub fn read_state(w: &[u32]) -> Option<State>
         return None;
     }
     Some(state_by(numbers))
+}
+
+// The numbers of a slice, if they are a state, lent to be written.
+pub fn state_in(w: &mut [u32]) -> Option<&mut [u32; 122]>
+    ensures cases { MatchOption result (decode w.old ≡ None) (λ y. (is_state y.now ≡ true) × (y.now ≡ w.old)) }
+    ensures* writes_back { sem 𝓛 (LendsIf (Array u32 0) (Array u32 0) w.entry result (λ ws. ws) w.old) }
+{
+    if !is_state(w) {
+        return None;
+    }
+    w.as_mut_array()
 }
 
 // Task i of a state.

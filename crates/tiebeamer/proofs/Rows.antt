@@ -46,14 +46,6 @@ pub err_is : {T E : Type 0} (r : Result T E) (e : E) → IsErrAnd r (λ x. x ≡
 err_is (Ok x) e h = absurd h
 err_is (Err y) e h = rw h refl
 
--- whether the numbers lent are a state, as the code asks of 122 of them
-module _ (w v : List ℕ) (same : v ≡ w) (b : Bool) (eb : b ≡ is_state v) where
-  pub lent-none : b ≡ false → decode w ≡ None
-  lent-none e = state_none w (ap is_state (sym same) ∙ sym eb ∙ e)
-
-  pub lent-own : b ≡ true → is_state w ≡ true
-  lent-own e = ap is_state (sym same) ∙ sym eb ∙ e
-
 -- numbers that are no state
 module _ (t w : List ℕ) (e : decode w ≡ None) where
   pub reset-none : told 50 0 t w ≡ reset_told t w

@@ -22,8 +22,8 @@ use fields::{Slots, SlotsMut, fitting_slots};
 use resetting::reset;
 use state::{ask_fits, job_fits, task_place};
 use statecode::{
-    StateMut, Walker, goal_number, is_sound_by, is_state, put_first, read_state, store_task,
-    task_at, walker_at, write_state,
+    StateMut, Walker, goal_number, is_sound_by, put_first, read_state, state_in, store_task, task_at,
+    walker_at, write_state,
 };
 use stepping::phase_step;
 use terms::{
@@ -125,7 +125,8 @@ fn begun(t: &[u32], w: &mut StateMut, i: u32, o: Operation, j: Job) -> Result<An
     if !is_sound_by(w.numbers) {
         return Err(Refusal::Damaged);
     }
-    put_first(w.numbers, at, 1, j, goal_number(Goal::Serve(o)), Path::default());
+    let k = goal_number(Goal::Serve(o));
+    put_first(w.numbers, at, 1, j, k, Path::default());
     Ok(Answer::Accepted)
 }
 
@@ -133,14 +134,11 @@ fn begun(t: &[u32], w: &mut StateMut, i: u32, o: Operation, j: Job) -> Result<An
 fn begin_asked(t: &[u32], w: &mut [u32], i: u32, operation: u32, j: Job) -> Result<Answer, Unasked>
     ensures { told (number_asked result) 0 t.now w.new ≡ begin_told t.now w.old i operation j.number j.price }
 {
-    let Some(w) = w.as_mut_array() else {
+    let Some(numbers) = state_in(w) else {
         return Err(Unasked::NoState);
     };
-    if !is_state(w) {
-        return Err(Unasked::NoState);
-    }
     let o = Operation::try_from(operation)?;
-    Ok(answered(begun(t, &mut StateMut { numbers: w }, i, o, j)))
+    Ok(answered(begun(t, &mut StateMut { numbers }, i, o, j)))
 }
 
 pub fn tiebeamer_begin(
@@ -297,13 +295,10 @@ fn run_by(t: &mut [u32], w: &mut StateMut, i: u32, count: u32) -> Answer
 fn step_asked(t: &mut [u32], w: &mut [u32], i: u32) -> Result<Answer, Unasked>
     ensures { (p : ℕ) → told (number_asked result) (price_asked p result) t.new w.new ≡ step_told t.old w.old i p }
 {
-    let Some(w) = w.as_mut_array() else {
+    let Some(numbers) = state_in(w) else {
         return Err(Unasked::NoState);
     };
-    if !is_state(w) {
-        return Err(Unasked::NoState);
-    }
-    Ok(step_by(t, &mut StateMut { numbers: w }, i))
+    Ok(step_by(t, &mut StateMut { numbers }, i))
 }
 
 pub fn tiebeamer_step(table: &mut [u32], state: &mut [u32], task: u32, price: &mut u32) -> u32
@@ -318,16 +313,13 @@ pub fn tiebeamer_step(table: &mut [u32], state: &mut [u32], task: u32, price: &m
 fn run_asked(t: &mut [u32], w: &mut [u32], i: u32, count: u32) -> Result<Answer, Unasked>
     ensures { (p : ℕ) → told (number_asked result) (price_asked p result) t.new w.new ≡ run_told t.old w.old i count p }
 {
-    let Some(w) = w.as_mut_array() else {
+    let Some(numbers) = state_in(w) else {
         return Err(Unasked::NoState);
     };
-    if !is_state(w) {
-        return Err(Unasked::NoState);
-    }
     if !((1 <= count) & (count <= 65535)) {
         return Err(Unasked::NoCall);
     }
-    Ok(run_by(t, &mut StateMut { numbers: w }, i, count))
+    Ok(run_by(t, &mut StateMut { numbers }, i, count))
 }
 
 pub fn tiebeamer_run(
@@ -372,13 +364,10 @@ fn given_up(t: &[u32], w: &mut StateMut, i: u32) -> Result<Answer, Refusal>
 fn abandon_asked(t: &[u32], w: &mut [u32], i: u32) -> Result<Answer, Unasked>
     ensures { told (number_asked result) 0 t.now w.new ≡ abandon_told t.now w.old i }
 {
-    let Some(w) = w.as_mut_array() else {
+    let Some(numbers) = state_in(w) else {
         return Err(Unasked::NoState);
     };
-    if !is_state(w) {
-        return Err(Unasked::NoState);
-    }
-    Ok(answered(given_up(t, &mut StateMut { numbers: w }, i)))
+    Ok(answered(given_up(t, &mut StateMut { numbers }, i)))
 }
 
 pub fn tiebeamer_abandon(table: &[u32], state: &mut [u32], task: u32) -> u32
