@@ -1,6 +1,6 @@
 -- The rows of the interface's definitions, as the code goes through them: numbers that are no state, no such call, the call.
-use mathlib.Core.Path.{◌≡◌, refl, sym, ap, ◌∙◌}
-use mathlib.Core.Bool.{Bool, true, false, ◌&&◌}
+use mathlib.Core.Path.{◌≡◌, refl, sym, ◌∙◌}
+use mathlib.Core.Bool.{true, false, ◌&&◌}
 use mathlib.Core.List.{List}
 use Prim.Native.Nat.{ℕ}
 use lib.Dec.{leb, eqb}
@@ -25,7 +25,7 @@ use Rattle.machine.specs.CallFile.{end_line, run_of}
 use Rattle.whole.specs.Whole.{listed}
 use Rattle.statecode.specs.Code.{encode, state_by, is_state, decode}
 use Rattle.statecode.proofs.Own.{own-encode}
-use Rattle.statecode.proofs.Inverse.{state_some, state_none}
+use Rattle.statecode.proofs.Inverse.{state_some}
 use Rattle.tiebeamer.specs.Numbers.{out_by}
 use Rattle.tiebeamer.specs.Interface.{told, as_numbers, reset_told, begin_told, step_told, run_told, abandon_told, tidy_told, shown, report_shown, figures_shown, listed_shown, list_shown}
 use Rattle.tiebeamer.proofs.Priceless.{Free, reset-free, begin-free, abandon-free, tidy-free}

@@ -22,8 +22,8 @@ use fields::{Slots, SlotsMut, fitting_slots};
 use resetting::reset;
 use state::{ask_fits, job_fits, task_place};
 use statecode::{
-    StateMut, Walker, goal_number, is_sound_by, put_first, read_state, state_in, store_task, task_at,
-    walker_at, write_state,
+    StateMut, Walker, goal_number, is_sound_by, put_first, read_state, state_in, store_task,
+    task_at, walker_at, write_state,
 };
 use stepping::phase_step;
 use terms::{
