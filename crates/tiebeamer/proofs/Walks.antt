@@ -102,6 +102,9 @@ module _ (w : List ℕ) (own : is_state w ≡ true) (i : ℕ) (k : Walker) (walk
     pub next-own : is_state last ≡ true
     next-own = walker-own w i own walks.0 no-notes next f k.job x q er last el
 
+  pub on-own : (q : Path) (x : ℕ) → x ≡ goal_number k.goal → (last : List ℕ) → last ≡ put_first w (15 * i) 2 k.job x q → is_state last ≡ true
+  on-own q x ex last el = next-own 2 x q (Walk k.goal q) (ap (λ (z : ℕ). places 2 k.job z q no_links no_links no_links no_links) ex) last el
+
   module _ (q : Path) (a : Arrival) where
     abbrev Stored : List ℕ → Answer → Type 0
     Stored last r = out_by last r ≡ turned_out (state_by w) i (turn_at k.goal k.job q a) false
@@ -114,9 +117,6 @@ module _ (w : List ℕ) (own : is_state w ≡ true) (i : ℕ) (k : Walker) (walk
     unfolding turn_at
     on-stored e x ex last el =
         next-stored 2 x q (Walk k.goal q) (ap (λ (z : ℕ). places 2 k.job z q no_links no_links no_links no_links) ex) last el _ (rw e refl)
-
-    pub on-own : (x : ℕ) → x ≡ goal_number k.goal → (last : List ℕ) → last ≡ put_first w (15 * i) 2 k.job x q → is_state last ≡ true
-    on-own x ex last el = next-own 2 x q (Walk k.goal q) (ap (λ (z : ℕ). places 2 k.job z q no_links no_links no_links no_links) ex) last el
 
     pub puts-stored : a ≡ Puts → (last : List ℕ) → last ≡ put_first w (15 * i) 3 k.job 0 q → Stored last Accepted
     unfolding turn_at

@@ -10,7 +10,7 @@ pub store_turn-requires : goal.store_turn-requires
 store_turn-requires c = (c.requires.0.0, c.requires.1, c.requires.2)
 
 pub invariant_of-w : goal.invariant_of-w
-invariant_of-w c = record { coded = on-own c.args.w.now.numbers.now c.args.w.now.coded c.args.i c.args.k c.requires.0 c.args.q c.args.a _ (detail_is c.args.w.now.numbers.now c.args.w.now.coded c.args.i c.args.k c.requires.0) _ c.put_first.ensures }
+invariant_of-w c = record { coded = on-own c.args.w.now.numbers.now c.args.w.now.coded c.args.i c.args.k c.requires.0 c.args.q _ (detail_is c.args.w.now.numbers.now c.args.w.now.coded c.args.i c.args.k c.requires.0) _ c.put_first.ensures }
 
 pub invariant_of-w-in-Puts : goal.invariant_of-w-in-Puts
 invariant_of-w-in-Puts c = record { coded = next-own c.args.w.now.numbers.now c.args.w.now.coded c.args.i c.args.k c.requires.0 3 0 c.args.q (PuttingIn c.args.q PutParent) refl _ c.put_first-in-Puts.ensures }
