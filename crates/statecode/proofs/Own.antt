@@ -13,12 +13,16 @@ use Rattle.std.specs.Simd.{first_chunks}
 use Rattle.std.proofs.lemmas.List.{get_or-take, length-take}
 use Rattle.std.proofs.lemmas.List.Folds.{fold-map}
 use Rattle.std.proofs.Common.{lit<, cond}
+use Rattle.std.specs.Prelude.{MatchOption, Some, None}
+use Rattle.std.specs.declared.option.Option.{Option}
+use Rattle.std.specs.Borrow.{MutBor}
+use Rattle.std.specs.Array.{IsWholeChunk}
 use Rattle.terms.specs.declared.Task.{Task}
 use Rattle.terms.specs.declared.State.{State}
 use Rattle.terms.specs.Task.{idle_task, work_settles}
 use Rattle.machine.specs.State.{one, settling, count_open, sound, task_at}
 use Rattle.machine.proofs.Count.{settling_counted}
-use Rattle.statecode.specs.Code.{work_row, rows, encode, phase_by, put_by, take_by, settle_by, task_by, tasks_by, state_by, same_numbers, is_state}
+use Rattle.statecode.specs.Code.{work_row, rows, encode, phase_by, put_by, take_by, settle_by, task_by, tasks_by, state_by, same_numbers, is_state, decode}
 use Rattle.statecode.specs.Own.{own_row, own_rows, storing}
 use Rattle.statecode.proofs.Writing.{rows_append}
 use Rattle.statecode.proofs.Same.{same_self, same-equal}
@@ -111,6 +115,13 @@ own-encode w e = same-equal (encode (state_by w)) w e
 
 pub own-length : (w : List ℕ) → is_state w ≡ true → length w ≡ 122
 own-length w e = sym (ap length (own-encode w e)) ∙ length_encode (state_by w) (eight w)
+
+-- as many numbers as a state has, lent as an array
+pub lent-whole :
+    (w : List ℕ) → is_state w ≡ true → (r : Option (MutBor (List ℕ))) → MatchOption r (length w ≡ 122 → ⊥) (λ y. IsWholeChunk w y.now 122)
+    → MatchOption r (decode w ≡ None) (λ y. (is_state y.now ≡ true) × (y.now ≡ w))
+lent-whole w e None h = absurd (h (own-length w e))
+lent-whole w e (Some y) h = (ap is_state h.same ∙ e, h.same)
 
 -- numbers of another length are no state
 pub other_none : (w : List ℕ) → (length w ≡ 122 → ⊥) → false ≡ is_state w

@@ -1,3 +1,4 @@
 pub mod Code
 pub mod Own
 pub mod Walking
+pub mod Lent

@@ -2,6 +2,8 @@
 #![tactic(auto)]
 
 ghost use Rattle.std.specs.Prelude.{◌≡◌, ◌++◌, ◌+◌, ◌-◌, ◌*◌, ◌≤◌, ◌<◌, length, take, drop, set, true};
+ghost use Rattle.std.specs.Prelude.{MatchOption};
+ghost use Rattle.std.specs.Borrow.{sem, LendsIf, Array, u32};
 ghost use Rattle.std.specs.List.{list_all};
 ghost use Rattle.std.proofs.Math.Seq.{paste};
 ghost use Rattle.terms.specs.Task.{work_settles};
@@ -9,8 +11,12 @@ ghost use Rattle.machine.specs.State.{settling, sound, task_at};
 ghost use Rattle.statecode.specs.Walking.{walker_of, put_first};
 ghost use Rattle.statecode.specs.Own.{clear_from, own_goal, own_noted, own_by, own_row, storing};
 ghost use Rattle.statecode.specs.Code.{is_state, goal_number, no_links, places, put_row, take_row, settle_row, phase_row, work_row, rows, encode};
+ghost use Rattle.statecode.specs.Lent.{lent, SameState};
 ghost use Rattle.statecode.specs.Code.{job_by, path_by, links_by, goal_by, put_by, take_by, settle_by, phase_by, task_by, state_by, decode};
 
+mod lent;
+
+pub use lent::StateMut;
 use terms::{
     Goal, Job, Links, Operation, Path, Phase, PutStage, SettleStage, State, TakeStage, Task, Work,
 };
@@ -347,6 +353,17 @@ pub fn read_state(w: &[u32]) -> Option<State>
     Some(state_by(numbers))
 }
 
+// The numbers of a slice, if they are a state, lent to be written.
+pub fn state_in(w: &mut [u32]) -> Option<&mut [u32; 122]>
+    ensures cases { MatchOption result (decode w.old ≡ None) (λ y. (is_state y.now ≡ true) × (y.now ≡ w.old)) }
+    ensures* writes_back { sem 𝓛 (LendsIf (Array u32 0) (Array u32 0) w.entry result (λ ws. ws) w.old) }
+{
+    if !is_state(w) {
+        return None;
+    }
+    w.as_mut_array()
+}
+
 // Task i of a state.
 #[tactic(auto, using(crate::proofs::Own::task_part))]
 pub fn task_at(w: &[u32; 122], i: usize) -> Task
@@ -409,13 +426,21 @@ pub fn is_sound_by(w: &[u32; 122]) -> bool
     (m <= 1000000) & (all <= u64::from(m))
 }
 
-// A task is stored in a state, with m and u.
-pub fn store_task(w: &mut [u32; 122], i: usize, k: Task, m: u32, u: u32)
-    requires { (is_state w.old ≡ true) × (i < 8) }
-    ensures { (state_by w.new ≡ storing (state_by w.old) i k m u) × (is_state w.new ≡ true) }
+// Task i's 15 numbers, m and u are written.
+fn put_task(w: &mut [u32; 122], i: usize, r: [u32; 15], m: u32, u: u32)
+    requires { i < 8 }
+    ensures { w.new ≡ set (set (paste w.old (15 * i) r 15) 120 m) 121 u }
 {
-    put_row_at(w, i, row_of(k));
+    put_row_at(w, i, r);
     put_ends(w, m, u);
+}
+
+// A task is stored in a state, with m and u.
+pub fn store_task(w: &mut StateMut, i: usize, k: Task, m: u32, u: u32)
+    requires { i < 8 }
+    ensures { (lent w.new ≡ storing (lent w.old) i k m u) × SameState w.old w.new }
+{
+    put_task(w.numbers, i, row_of(k), m, u);
 }
 
 // The task of 15 numbers, if it walks.

@@ -1,6 +1,6 @@
 -- The rows of the interface's definitions, as the code goes through them: numbers that are no state, no such call, the call.
-use mathlib.Core.Path.{◌≡◌, refl, sym, ap, ◌∙◌}
-use mathlib.Core.Bool.{Bool, true, false, ◌&&◌}
+use mathlib.Core.Path.{◌≡◌, refl, sym, ◌∙◌}
+use mathlib.Core.Bool.{true, false, ◌&&◌}
 use mathlib.Core.List.{List}
 use Prim.Native.Nat.{ℕ}
 use lib.Dec.{leb, eqb}
@@ -25,7 +25,7 @@ use Rattle.machine.specs.CallFile.{end_line, run_of}
 use Rattle.whole.specs.Whole.{listed}
 use Rattle.statecode.specs.Code.{encode, state_by, is_state, decode}
 use Rattle.statecode.proofs.Own.{own-encode}
-use Rattle.statecode.proofs.Inverse.{state_some, state_none}
+use Rattle.statecode.proofs.Inverse.{state_some}
 use Rattle.tiebeamer.specs.Numbers.{out_by}
 use Rattle.tiebeamer.specs.Interface.{told, as_numbers, reset_told, begin_told, step_told, run_told, abandon_told, tidy_told, shown, report_shown, figures_shown, listed_shown, list_shown}
 use Rattle.tiebeamer.proofs.Priceless.{Free, reset-free, begin-free, abandon-free, tidy-free}
@@ -45,14 +45,6 @@ no-price l t o e f = sym (rw (← e) at f)
 pub err_is : {T E : Type 0} (r : Result T E) (e : E) → IsErrAnd r (λ x. x ≡ e) → r ≡ Err e
 err_is (Ok x) e h = absurd h
 err_is (Err y) e h = rw h refl
-
--- whether the numbers lent are a state, as the code asks of 122 of them
-module _ (w v : List ℕ) (same : v ≡ w) (b : Bool) (eb : b ≡ is_state v) where
-  pub lent-none : b ≡ false → decode w ≡ None
-  lent-none e = state_none w (ap is_state (sym same) ∙ sym eb ∙ e)
-
-  pub lent-own : b ≡ true → is_state w ≡ true
-  lent-own e = ap is_state (sym same) ∙ sym eb ∙ e
 
 -- numbers that are no state
 module _ (t w : List ℕ) (e : decode w ≡ None) where
@@ -141,25 +133,25 @@ module _ (t w : List ℕ) (st : State) (e : decode w ≡ Some st) where
   list-made l l' a h = rw (e, ← h) refl
 
 -- the same where the state stays in its numbers
-module _ (t w : List ℕ) (own : is_state w ≡ true) (t' w' : List ℕ) (a : Answer) (kept : is_state w' ≡ true) where
+module _ (t w : List ℕ) (own : is_state w ≡ true) (t' w' last : List ℕ) (same : last ≡ w') (a : Answer) (kept : is_state w' ≡ true) where
   abbrev Stored : Type 0
-  Stored = w' ≡ encode (state_by w')
+  Stored = last ≡ encode (state_by w')
 
   stored : Stored
-  stored = sym (own-encode w' kept)
+  stored = same ∙ sym (own-encode w' kept)
 
   pub begin-stored :
       (i o : ℕ) (j : Job) (y : Operation) → operation_at o ≡ Ok y → after t' (out_by w' a) ≡ begin_of t (state_by w) i y j
-      → told (number_of a) 0 t' w' ≡ begin_told t w i o j.number j.price
-  begin-stored i o j y ey h = begin-made t w (state_by w) (state_some w own) t' (out_by w' a) w' stored i o j.number j.price y ey h
+      → told (number_of a) 0 t' last ≡ begin_told t w i o j.number j.price
+  begin-stored i o j y ey h = begin-made t w (state_by w) (state_some w own) t' (out_by w' a) last stored i o j.number j.price y ey h
 
-  pub abandon-stored : (i : ℕ) → after t' (out_by w' a) ≡ abandon_of t (state_by w) i → told (number_of a) 0 t' w' ≡ abandon_told t w i
-  abandon-stored i h = abandon-made t w (state_by w) (state_some w own) t' (out_by w' a) w' stored i h
+  pub abandon-stored : (i : ℕ) → after t' (out_by w' a) ≡ abandon_of t (state_by w) i → told (number_of a) 0 t' last ≡ abandon_told t w i
+  abandon-stored i h = abandon-made t w (state_by w) (state_some w own) t' (out_by w' a) last stored i h
 
-  pub step-stored : (i p : ℕ) → after t' (out_by w' a) ≡ step_of t (state_by w) i → told (number_of a) (price_of a) t' w' ≡ step_told t w i p
-  step-stored i p h = step-made t w (state_by w) (state_some w own) t' (out_by w' a) w' stored i p h
+  pub step-stored : (i p : ℕ) → after t' (out_by w' a) ≡ step_of t (state_by w) i → told (number_of a) (price_of a) t' last ≡ step_told t w i p
+  step-stored i p h = step-made t w (state_by w) (state_some w own) t' (out_by w' a) last stored i p h
 
   pub run-stored :
       (i c p : ℕ) → (leb 1 c && leb c 65535) ≡ true → after t' (out_by w' a) ≡ run_of c t (state_by w) i
-      → told (number_of a) (price_of a) t' w' ≡ run_told t w i c p
-  run-stored i c p g h = run-made t w (state_by w) (state_some w own) t' (out_by w' a) w' stored i c p g h
+      → told (number_of a) (price_of a) t' last ≡ run_told t w i c p
+  run-stored i c p g h = run-made t w (state_by w) (state_some w own) t' (out_by w' a) last stored i c p g h

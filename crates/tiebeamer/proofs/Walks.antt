@@ -72,21 +72,21 @@ on_way (Busy j (PuttingIn q s)) k e P f g = absurd (cc)
 on_way (Busy j (TakingOut q s)) k e P f g = absurd (cc)
 on_way (Busy j (Settling q s)) k e P f g = absurd (cc)
 
-module _ (w : List ℕ) (i : ℕ) (k : Walker) (walks : Walks w i k) where
+module _ (w : List ℕ) (own : is_state w ≡ true) (i : ℕ) (k : Walker) (walks : Walks w i k) where
   abbrev does : Work
   does = (task_at (state_by w) i).work
 
   no-notes : no_notes does ≡ true
   unfolding no_notes
-  no-notes = on_way does k walks.2 (no_notes does ≡ true) (λ e p. rw e refl) (λ q e p. rw e refl)
+  no-notes = on_way does k walks.1 (no_notes does ≡ true) (λ e p. rw e refl) (λ q e p. rw e refl)
 
   -- its place 3 is the number of its goal
   pub detail_is : get_or w (15 * i + 3) 0 ≡ goal_number k.goal
   detail_is =
-      let rest : List ℕ = later (state_by w) i (eight w) walks.1 ++ ends (state_by w) i (eight w) walks.1 in
+      let rest : List ℕ = later (state_by w) i (eight w) walks.0 ++ ends (state_by w) i (eight w) walks.0 in
       sym (get_or-drop (15 * i) w 3 0)
-      ∙ ap (λ (z : List ℕ). get_or z 3 0) (row_at w i walks.0 walks.1)
-      ∙ on_way does k walks.2 (get_or (work_row does ++ rest) 3 0 ≡ goal_number k.goal) (λ e p. rw e refl) (λ q e p. rw e refl)
+      ∙ ap (λ (z : List ℕ). get_or z 3 0) (row_at w i own walks.0)
+      ∙ on_way does k walks.1 (get_or (work_row does ++ rest) 3 0 ≡ goal_number k.goal) (λ e p. rw e refl) (λ q e p. rw e refl)
 
   -- the walker's next phase is stored
   module _ (f x : ℕ) (q : Path) (p : Phase) (er : places f k.job x q no_links no_links no_links no_links ≡ phase_row k.job p) (last : List ℕ) (el : last ≡ put_first w (15 * i) f k.job x q) where
@@ -94,21 +94,24 @@ module _ (w : List ℕ) (i : ℕ) (k : Walker) (walks : Walks w i k) where
     next = busy k.job p
 
     next-state : state_by last ≡ storing (state_by w) i next ((state_by w).m + 0) (state_by w).u
-    next-state = walker-stored w i walks.0 walks.1 no-notes next f k.job x q er last el ∙ rw (add-zero (state_by w).m) refl
+    next-state = walker-stored w i own walks.0 no-notes next f k.job x q er last el ∙ rw (add-zero (state_by w).m) refl
 
-    pub next-stored : (a : Turn) → a ≡ Next next → (out_by last Accepted ≡ turned_out (state_by w) i a false) × (is_state last ≡ true)
-    next-stored a ea = (
-      next-turn (state_by w) i a false (state_by w).m (state_by w).u 0 refl refl refl (state_by last) next ea next-state,
-      walker-own w i walks.0 walks.1 no-notes next f k.job x q er last el,
-    )
+    pub next-stored : (a : Turn) → a ≡ Next next → out_by last Accepted ≡ turned_out (state_by w) i a false
+    next-stored a ea = next-turn (state_by w) i a false (state_by w).m (state_by w).u 0 refl refl refl (state_by last) next ea next-state
+
+    pub next-own : is_state last ≡ true
+    next-own = walker-own w i own walks.0 no-notes next f k.job x q er last el
+
+  pub on-own : (q : Path) (x : ℕ) → x ≡ goal_number k.goal → (last : List ℕ) → last ≡ put_first w (15 * i) 2 k.job x q → is_state last ≡ true
+  on-own q x ex last el = next-own 2 x q (Walk k.goal q) (ap (λ (z : ℕ). places 2 k.job z q no_links no_links no_links no_links) ex) last el
 
   module _ (q : Path) (a : Arrival) where
     abbrev Stored : List ℕ → Answer → Type 0
-    Stored last r = (out_by last r ≡ turned_out (state_by w) i (turn_at k.goal k.job q a) false) × (is_state last ≡ true)
+    Stored last r = out_by last r ≡ turned_out (state_by w) i (turn_at k.goal k.job q a) false
 
     pub lost-stored : a ≡ Lost → Stored w Damaged
     unfolding turn_at
-    lost-stored e = (hurt-turn (state_by w) i _ false (rw e refl), walks.0)
+    lost-stored e = hurt-turn (state_by w) i _ false (rw e refl)
 
     pub on-stored : a ≡ On → (x : ℕ) → x ≡ goal_number k.goal → (last : List ℕ) → last ≡ put_first w (15 * i) 2 k.job x q → Stored last Accepted
     unfolding turn_at
@@ -128,10 +131,10 @@ module _ (w : List ℕ) (i : ℕ) (k : Walker) (walks : Walks w i k) where
     settles_stored e last el = next-stored 5 0 q (Settling q SettleGrand) refl last el _ (rw e refl)
 
     pub ends-stored :
-        (b : Answer) → a ≡ Ends b → (last : List ℕ) (r : Answer) → (out_by last r ≡ turned_out (state_by w) i (Done b) false) × (is_state last ≡ true)
+        (b : Answer) → a ≡ Ends b → (last : List ℕ) (r : Answer) → out_by last r ≡ turned_out (state_by w) i (Done b) false
         → Stored last r
     unfolding turn_at
-    ends-stored b e last r er = (rw e er.0, er.1)
+    ends-stored b e last r er = rw e er
 
   -- the step itself, of a sound state and a job in range or not
   module _ (t : List ℕ) (b : Bool) (eb : b ≡ sound (state_by w)) (c : Bool) (ec : c ≡ job_fits k.job) where
@@ -140,7 +143,7 @@ module _ (w : List ℕ) (i : ℕ) (k : Walker) (walks : Walks w i k) where
 
     pub damaged_walk : (b && c) ≡ false → Stepped (out_by w Damaged)
     damaged_walk h =
-        on_way does k walks.2 (Stepped (out_by w Damaged))
+        on_way does k walks.1 (Stepped (out_by w Damaged))
         (λ e p. damaged_row t (state_by w) i _ k.job _ e b eb c ec h)
         (λ q e p. damaged_row t (state_by w) i _ k.job _ e b eb c ec h)
 
@@ -180,7 +183,7 @@ module _ (w : List ℕ) (i : ℕ) (k : Walker) (walks : Walks w i k) where
 
       pub lost-walk : (e : Refusal) → Left (Err e) → Stepped (out_by w (answer_of e))
       lost-walk e l =
-          on_way does k walks.2 (Stepped (out_by w (answer_of e)))
+          on_way does k walks.1 (Stepped (out_by w (answer_of e)))
           (λ x p. absurd (let z : Ok (no_grand, 0) ≡ Err e = sym (at-start p) ∙ l in cc))
           (λ q x p.
           by_test (Stepped (out_by w (answer_of e))) (eqb q.here 0)
@@ -194,7 +197,7 @@ module _ (w : List ℕ) (i : ℕ) (k : Walker) (walks : Walks w i k) where
           (p : ℕ × ℕ) → Left (Ok p) → (x : Turn) → x ≡ walk_from (view n t) n k.goal k.job p.0 p.1
           → (r : Out) → r ≡ turned_out (state_by w) i x false → Stepped r
       gone-walk s l x ex r er =
-          on_way does k walks.2 (Stepped r)
+          on_way does k walks.1 (Stepped r)
           (λ d p.
           let y : Ok (no_grand, 0) ≡ Ok s = sym (at-start p) ∙ l in
           let u : (no_grand, 0) ≡ s = cc in

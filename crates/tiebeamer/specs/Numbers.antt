@@ -1,5 +1,5 @@
 -- How the functions below the calls speak of a state that stays in its numbers.
-use Rattle.std.specs.Prelude.{ℕ, ◌<◌, ◌≡◌, true, List, eqb, Some, None, Ok, Err}
+use Rattle.std.specs.Prelude.{ℕ, ◌<◌, ◌≡◌, List, eqb, Some, None, Ok, Err}
 use Rattle.std.specs.declared.option.Option.{Option}
 use Rattle.std.specs.declared.result.Result.{Result}
 use Rattle.terms.specs.declared.Path.{Path}
@@ -12,7 +12,11 @@ use Rattle.terms.specs.Task.{no_grand}
 use Rattle.machine.specs.Choice.{if_b}
 use Rattle.machine.specs.State.{task_at}
 use Rattle.statecode.specs.declared.Walker.{Walker}
-use Rattle.statecode.specs.Code.{is_state, state_by}
+use Rattle.machine.specs.Contract.{after}
+use Rattle.machine.specs.Step.{Left}
+use Rattle.statecode.specs.declared.lent.StateMut.{StateMut}
+use Rattle.statecode.specs.Lent.{SameState}
+use Rattle.statecode.specs.Code.{state_by}
 use Rattle.statecode.specs.Walking.{walker_of}
 
 -- the answer of a call that may be refused
@@ -24,6 +28,14 @@ answered (Err e) = answer_of e
 abbrev pub out_by : List ℕ → Answer → Out
 out_by w a = record { state = state_by w; answer = a }
 
+-- so much is handed back, and the state is lent still
+abbrev pub Hands : StateMut → StateMut → Answer → Out → Type 0
+Hands old new a o = (out_by new.numbers.now a ≡ o) × SameState old new
+
+-- the same with the table that is left
+abbrev pub Leaves : List ℕ → StateMut → StateMut → Answer → Left → Type 0
+Leaves t old new a l = (after t (out_by new.numbers.now a) ≡ l) × SameState old new
+
 -- the slot that a walker's next step leaves, behind its parent: "first the entry's left"; below it the entry is damage
 abbrev pub left_on : Option Path → Result (ℕ × ℕ) Refusal
 left_on None = Ok (no_grand, 0)
@@ -33,6 +45,6 @@ left_on (Some q) = if_b (eqb q.here 0) (Err Damaged) (Ok (q.parent, q.here))
 abbrev pub left_by : Walker → Result (ℕ × ℕ) Refusal
 left_by k = left_on k.path
 
--- the numbers are a state, and task i of it walks as k
+-- task i of the state walks as k
 abbrev pub Walks : List ℕ → ℕ → Walker → Type 0
-Walks w i k = (is_state w ≡ true) × (i < 8) × (walker_of (task_at (state_by w) i).work ≡ Some k)
+Walks w i k = (i < 8) × (walker_of (task_at (state_by w) i).work ≡ Some k)

@@ -5,16 +5,16 @@
 
 ghost use Rattle.std.specs.Prelude.{◌≡◌, true, false, ◌≤◌, ◌<◌, ℕ, get_or, Ok};
 ghost use Rattle.fields.specs.Writes.{seen, SameTable};
-ghost use Rattle.machine.specs.Contract.{after, turned_out};
+ghost use Rattle.machine.specs.Contract.{turned_out};
 ghost use Rattle.machine.specs.Step.{unsettled, step_work, step_of};
 ghost use Rattle.machine.specs.Table.{slots};
 ghost use Rattle.machine.specs.Calls.{begin_of, abandon_of};
 ghost use Rattle.machine.specs.CallFile.{end_line, run_of};
-ghost use Rattle.statecode.specs.Code.{is_state, state_by};
+ghost use Rattle.statecode.specs.Lent.{lent};
 ghost use Rattle.tiebeamer.specs.declared.Unasked.TheVariants as Unasked;
 ghost use Rattle.walk.specs.Arrived.{turn_at};
 ghost use Rattle.machine.specs.State.{one, task_at};
-ghost use Rattle.tiebeamer.specs.Numbers.{answered, out_by, left_by, Walks};
+ghost use Rattle.tiebeamer.specs.Numbers.{answered, left_by, Hands, Leaves, Walks};
 ghost use Rattle.tiebeamer.specs.Interface.{number_refused, number_asked, price_asked, told, reset_told, begin_told, step_told, run_told};
 ghost use Rattle.tiebeamer.specs.Interface.{abandon_told, tidy_told, shown, figures_shown, list_shown};
 
@@ -22,8 +22,8 @@ use fields::{Slots, SlotsMut, fitting_slots};
 use resetting::reset;
 use state::{ask_fits, job_fits, task_place};
 use statecode::{
-    Walker, goal_number, is_sound_by, is_state, put_first, read_state, store_task, task_at,
-    walker_at, write_state,
+    StateMut, Walker, goal_number, is_sound_by, put_first, read_state, state_in, store_task,
+    task_at, walker_at, write_state,
 };
 use stepping::phase_step;
 use terms::{
@@ -108,27 +108,25 @@ pub fn tiebeamer_reset(table: &mut [u32], state: &mut [u32]) -> u32
     number_asked(reset_asked(table, state))
 }
 
-// That the numbers are a state stays a clause: a type that lends them must say in each contract that they are the same ones still.
-
 // Task i begins an operation, or the first refusal that holds. The places 7 to 14 of an idle task are 0 already, so its
 // first seven numbers are enough.
 #[tactic(auto, unfolding(machine::specs::Contract::after, machine::specs::Calls::begin_of, machine::specs::Choice::if_b))]
-fn begun(t: &[u32], w: &mut [u32; 122], i: u32, o: Operation, j: Job) -> Result<Answer, Refusal>
-    requires { is_state w.old ≡ true }
-    ensures { (after t.now (out_by w.new (answered result)) ≡ begin_of t.now (state_by w.old) i o j) × (is_state w.new ≡ true) }
+fn begun(t: &[u32], w: &mut StateMut, i: u32, o: Operation, j: Job) -> Result<Answer, Refusal>
+    ensures { Leaves t.now w.old w.new (answered result) (begin_of t.now (lent w.old) i o j) }
 {
     fitting_slots(t.len())?;
     let at = task_place(i)?;
     if !ask_fits(o, j) {
         return Err(Refusal::OutOfRange);
     }
-    if task_at(w, at).is_busy() {
+    if task_at(w.numbers, at).is_busy() {
         return Err(Refusal::TaskBusy);
     }
-    if !is_sound_by(w) {
+    if !is_sound_by(w.numbers) {
         return Err(Refusal::Damaged);
     }
-    put_first(w, at, 1, j, goal_number(Goal::Serve(o)), Path::default());
+    let k = goal_number(Goal::Serve(o));
+    put_first(w.numbers, at, 1, j, k, Path::default());
     Ok(Answer::Accepted)
 }
 
@@ -136,14 +134,11 @@ fn begun(t: &[u32], w: &mut [u32; 122], i: u32, o: Operation, j: Job) -> Result<
 fn begin_asked(t: &[u32], w: &mut [u32], i: u32, operation: u32, j: Job) -> Result<Answer, Unasked>
     ensures { told (number_asked result) 0 t.now w.new ≡ begin_told t.now w.old i operation j.number j.price }
 {
-    let Some(w) = w.as_mut_array() else {
+    let Some(numbers) = state_in(w) else {
         return Err(Unasked::NoState);
     };
-    if !is_state(w) {
-        return Err(Unasked::NoState);
-    }
     let o = Operation::try_from(operation)?;
-    Ok(answered(begun(t, w, i, o, j)))
+    Ok(answered(begun(t, &mut StateMut { numbers }, i, o, j)))
 }
 
 pub fn tiebeamer_begin(
@@ -168,12 +163,12 @@ fn unsettled(a: Answer) -> u32
 }
 
 // A turn of task i is stored in the state; its answer.
-fn store_turn(w: &mut [u32; 122], i: usize, r: Outcome) -> Answer
-    requires { (is_state w.old ≡ true) × (i < 8) × (get_or w.old 120 0 ≤ 1000000) × (get_or w.old 121 0 ≤ 1000000) }
-    ensures { (out_by w.new result ≡ turned_out (state_by w.old) i r.turn r.committed) × (is_state w.new ≡ true) }
+fn store_turn(w: &mut StateMut, i: usize, r: Outcome) -> Answer
+    requires { (i < 8) × (get_or w.old.numbers.now 120 0 ≤ 1000000) × (get_or w.old.numbers.now 121 0 ≤ 1000000) }
+    ensures { Hands w.old w.new result (turned_out (lent w.old) i r.turn r.committed) }
 {
-    let m = w[120] + u32::from(r.committed);
-    let u = w[121];
+    let m = w.numbers[120] + u32::from(r.committed);
+    let u = w.numbers[121];
     match r.turn {
         Turn::Hurt => Answer::Damaged,
         Turn::Next(k) => {
@@ -189,18 +184,18 @@ fn store_turn(w: &mut [u32; 122], i: usize, r: Outcome) -> Answer
 
 // A step of task i, by what it does.
 #[tactic(auto, unfolding(machine::specs::Contract::after, machine::specs::Contract::acted, machine::specs::Contract::played, machine::specs::Contract::turned_out, machine::specs::Step::step_work, machine::specs::Step::carried, machine::specs::Choice::if_b))]
-fn step_work(t: &mut SlotsMut, w: &mut [u32; 122], i: usize) -> Result<Answer, Refusal>
-    requires { (t.old.n ≡ slots t.old.numbers.now) × (is_state w.old ≡ true) × (i < 8) }
-    ensures { (after t.new.numbers.now (out_by w.new (answered result))
-        ≡ step_work t.old.numbers.now (state_by w.old) i (task_at (state_by w.old) i).work) × (is_state w.new ≡ true) × SameTable t.old t.new }
+fn step_work(t: &mut SlotsMut, w: &mut StateMut, i: usize) -> Result<Answer, Refusal>
+    requires { (t.old.n ≡ slots t.old.numbers.now) × (i < 8) }
+    ensures { Leaves t.new.numbers.now w.old w.new (answered result)
+        (step_work t.old.numbers.now (lent w.old) i (task_at (lent w.old) i).work) × SameTable t.old t.new }
 {
-    let Work::Busy(j, f) = task_at(w, i).work else {
+    let Work::Busy(j, f) = task_at(w.numbers, i).work else {
         return Err(Refusal::TaskIdle);
     };
-    if !(is_sound_by(w) & job_fits(j)) {
+    if !(is_sound_by(w.numbers) & job_fits(j)) {
         return Err(Refusal::Damaged);
     }
-    let r = phase_step(t, w[120], j, f);
+    let r = phase_step(t, w.numbers[120], j, f);
     Ok(store_turn(w, i, r))
 }
 
@@ -221,19 +216,19 @@ fn left_by(k: Walker) -> Result<(u32, u32), Refusal>
 }
 
 // What a walker came to is stored in its numbers; its answer. While it goes on, the number of its goal stays the one that stands there.
-fn store_arrival(w: &mut [u32; 122], i: usize, k: Walker, q: Path, a: Arrival) -> Answer
-    requires { Walks w.old i k × (get_or w.old 120 0 ≤ 1000000) × (get_or w.old 121 0 ≤ 1000000) }
-    ensures { (out_by w.new result ≡ turned_out (state_by w.old) i (turn_at k.goal k.job q a) false) × (is_state w.new ≡ true) }
+fn store_arrival(w: &mut StateMut, i: usize, k: Walker, q: Path, a: Arrival) -> Answer
+    requires { Walks w.old.numbers.now i k × (get_or w.old.numbers.now 120 0 ≤ 1000000) × (get_or w.old.numbers.now 121 0 ≤ 1000000) }
+    ensures { Hands w.old w.new result (turned_out (lent w.old) i (turn_at k.goal k.job q a) false) }
 {
     match a {
         Arrival::Lost => return Answer::Damaged,
         Arrival::On => {
-            let goal = w[15 * i + 3];
-            put_first(w, i, 2, k.job, goal, q);
+            let goal = w.numbers[15 * i + 3];
+            put_first(w.numbers, i, 2, k.job, goal, q);
         }
-        Arrival::Puts => put_first(w, i, 3, k.job, 0, q),
-        Arrival::Takes => put_first(w, i, 4, k.job, 0, q),
-        Arrival::Settles => put_first(w, i, 5, k.job, 0, q),
+        Arrival::Puts => put_first(w.numbers, i, 3, k.job, 0, q),
+        Arrival::Takes => put_first(w.numbers, i, 4, k.job, 0, q),
+        Arrival::Settles => put_first(w.numbers, i, 5, k.job, 0, q),
         Arrival::Ends(b) => {
             let r = Outcome {
                 turn: Turn::Done(b),
@@ -246,12 +241,12 @@ fn store_arrival(w: &mut [u32; 122], i: usize, k: Walker, q: Path, a: Arrival) -
 }
 
 // A step of task i, which walks. It has no notes before and after, so seven numbers are enough unless the operation ends.
-fn walk_on(t: &Slots, w: &mut [u32; 122], i: usize, k: Walker) -> Result<Answer, Refusal>
-    requires { (t.now.n ≡ slots t.now.numbers.now) × Walks w.old i k }
-    ensures { (after t.now.numbers.now (out_by w.new (answered result))
-        ≡ step_work t.now.numbers.now (state_by w.old) i (task_at (state_by w.old) i).work) × (is_state w.new ≡ true) }
+fn walk_on(t: &Slots, w: &mut StateMut, i: usize, k: Walker) -> Result<Answer, Refusal>
+    requires { (t.now.n ≡ slots t.now.numbers.now) × Walks w.old.numbers.now i k }
+    ensures { Leaves t.now.numbers.now w.old w.new (answered result)
+        (step_work t.now.numbers.now (lent w.old) i (task_at (lent w.old) i).work) }
 {
-    if !(is_sound_by(w) & job_fits(k.job)) {
+    if !(is_sound_by(w.numbers) & job_fits(k.job)) {
         return Err(Refusal::Damaged);
     }
     let (grand, parent) = left_by(k)?;
@@ -266,29 +261,26 @@ fn walk_on(t: &Slots, w: &mut [u32; 122], i: usize, k: Walker) -> Result<Answer,
 
 // A step of task i, or the first refusal that holds. The state stays in its numbers: only the task's own are read and written.
 #[tactic(auto, unfolding(machine::specs::Contract::after, machine::specs::Step::step_of, machine::specs::Choice::if_b))]
-fn stepped(t: &mut [u32], w: &mut [u32; 122], i: u32) -> Result<Answer, Refusal>
-    requires { is_state w.old ≡ true }
-    ensures { (after t.new (out_by w.new (answered result)) ≡ step_of t.old (state_by w.old) i) × (is_state w.new ≡ true) }
+fn stepped(t: &mut [u32], w: &mut StateMut, i: u32) -> Result<Answer, Refusal>
+    ensures { Leaves t.new w.old w.new (answered result) (step_of t.old (lent w.old) i) }
 {
     let n = fitting_slots(t.len())?;
     let at = task_place(i)?;
-    match walker_at(w, at) {
+    match walker_at(w.numbers, at) {
         Some(k) => walk_on(&Slots { numbers: t, n }, w, at, k),
         None => step_work(&mut SlotsMut { numbers: t, n }, w, at),
     }
 }
 
-fn step_by(t: &mut [u32], w: &mut [u32; 122], i: u32) -> Answer
-    requires { is_state w.old ≡ true }
-    ensures { (after t.new (out_by w.new result) ≡ step_of t.old (state_by w.old) i) × (is_state w.new ≡ true) }
+fn step_by(t: &mut [u32], w: &mut StateMut, i: u32) -> Answer
+    ensures { Leaves t.new w.old w.new result (step_of t.old (lent w.old) i) }
 {
     answered(stepped(t, w, i))
 }
 
 // So many steps, as long as they answer 0.
-fn run_by(t: &mut [u32], w: &mut [u32; 122], i: u32, count: u32) -> Answer
-    requires { is_state w.old ≡ true }
-    ensures { (after t.new (out_by w.new result) ≡ run_of count t.old (state_by w.old) i) × (is_state w.new ≡ true) }
+fn run_by(t: &mut [u32], w: &mut StateMut, i: u32, count: u32) -> Answer
+    ensures { Leaves t.new w.old w.new result (run_of count t.old (lent w.old) i) }
 {
     let mut a = Answer::Accepted;
     for _ in 0..count {
@@ -303,13 +295,10 @@ fn run_by(t: &mut [u32], w: &mut [u32; 122], i: u32, count: u32) -> Answer
 fn step_asked(t: &mut [u32], w: &mut [u32], i: u32) -> Result<Answer, Unasked>
     ensures { (p : ℕ) → told (number_asked result) (price_asked p result) t.new w.new ≡ step_told t.old w.old i p }
 {
-    let Some(w) = w.as_mut_array() else {
+    let Some(numbers) = state_in(w) else {
         return Err(Unasked::NoState);
     };
-    if !is_state(w) {
-        return Err(Unasked::NoState);
-    }
-    Ok(step_by(t, w, i))
+    Ok(step_by(t, &mut StateMut { numbers }, i))
 }
 
 pub fn tiebeamer_step(table: &mut [u32], state: &mut [u32], task: u32, price: &mut u32) -> u32
@@ -324,16 +313,13 @@ pub fn tiebeamer_step(table: &mut [u32], state: &mut [u32], task: u32, price: &m
 fn run_asked(t: &mut [u32], w: &mut [u32], i: u32, count: u32) -> Result<Answer, Unasked>
     ensures { (p : ℕ) → told (number_asked result) (price_asked p result) t.new w.new ≡ run_told t.old w.old i count p }
 {
-    let Some(w) = w.as_mut_array() else {
+    let Some(numbers) = state_in(w) else {
         return Err(Unasked::NoState);
     };
-    if !is_state(w) {
-        return Err(Unasked::NoState);
-    }
     if !((1 <= count) & (count <= 65535)) {
         return Err(Unasked::NoCall);
     }
-    Ok(run_by(t, w, i, count))
+    Ok(run_by(t, &mut StateMut { numbers }, i, count))
 }
 
 pub fn tiebeamer_run(
@@ -352,21 +338,20 @@ pub fn tiebeamer_run(
 
 // Task i is abandoned, or the first refusal that holds; its numbers are read as a task.
 #[tactic(auto, unfolding(machine::specs::Contract::after, machine::specs::Calls::abandon_of, machine::specs::Choice::if_b))]
-fn given_up(t: &[u32], w: &mut [u32; 122], i: u32) -> Result<Answer, Refusal>
-    requires { is_state w.old ≡ true }
-    ensures { (after t.now (out_by w.new (answered result)) ≡ abandon_of t.now (state_by w.old) i) × (is_state w.new ≡ true) }
+fn given_up(t: &[u32], w: &mut StateMut, i: u32) -> Result<Answer, Refusal>
+    ensures { Leaves t.now w.old w.new (answered result) (abandon_of t.now (lent w.old) i) }
 {
     fitting_slots(t.len())?;
     let at = task_place(i)?;
-    let k = task_at(w, at);
+    let k = task_at(w.numbers, at);
     if !k.is_busy() {
         return Err(Refusal::TaskIdle);
     }
-    if !is_sound_by(w) {
+    if !is_sound_by(w.numbers) {
         return Err(Refusal::Damaged);
     }
-    let m = w[120];
-    let u = w[121];
+    let m = w.numbers[120];
+    let u = w.numbers[121];
     if k.settles() {
         store_task(w, at, k.abandoned(), m, u + 1);
         Ok(Answer::PutUnsettled)
@@ -379,13 +364,10 @@ fn given_up(t: &[u32], w: &mut [u32; 122], i: u32) -> Result<Answer, Refusal>
 fn abandon_asked(t: &[u32], w: &mut [u32], i: u32) -> Result<Answer, Unasked>
     ensures { told (number_asked result) 0 t.now w.new ≡ abandon_told t.now w.old i }
 {
-    let Some(w) = w.as_mut_array() else {
+    let Some(numbers) = state_in(w) else {
         return Err(Unasked::NoState);
     };
-    if !is_state(w) {
-        return Err(Unasked::NoState);
-    }
-    Ok(answered(given_up(t, w, i)))
+    Ok(answered(given_up(t, &mut StateMut { numbers }, i)))
 }
 
 pub fn tiebeamer_abandon(table: &[u32], state: &mut [u32], task: u32) -> u32

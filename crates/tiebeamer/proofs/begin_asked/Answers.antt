@@ -1,22 +1,19 @@
-use Rattle.std.proofs.Common.{◌≡◌, true, sym, ◌∙◌}
+use Rattle.std.proofs.Common.{◌≡◌, true, rules, sym, ◌∙◌}
 use Rattle.statecode.specs.Code.{is_state}
-use Rattle.statecode.proofs.Inverse.{state_some, other_decoded}
+use Rattle.statecode.proofs.Inverse.{state_some}
 use Rattle.tiebeamer.specs.declared.Unasked.TheVariants.{NoCall}
-use Rattle.tiebeamer.proofs.Rows.{lent-none, lent-own, err_is, begin-none, begin-other, begin-stored}
+use Rattle.tiebeamer.proofs.Rows.{err_is, begin-none, begin-other, begin-stored}
 use Rattle.tiebeamer.proofs.begin_asked.Goals as goal
 
 pub returns-in_default : goal.returns-in_default
-returns-in_default c = begin-none c.args.t.now c.args.w.now (other_decoded _ c.in_default.ensures.cases) _ _ _ _
-
-pub returns-then-not-is_state : goal.returns-then-not-is_state
-returns-then-not-is_state c = rw c.in-Some.ensures.cases.same (begin-none c.args.t.now c.args.w.now (lent-none _ _ c.in-Some.ensures.cases.same _ c.is_state.ensures c.if-not-is_state.true) _ _ _ _)
+returns-in_default c = begin-none c.args.t.now c.args.w.now c.in_default.ensures.cases _ _ _ _
 
 pub returns-in_err-o : goal.returns-in_err-o
 returns-in_err-o c =
-    rw (err_is c.from_residual.result NoCall c.from_residual.ensures.1, c.in-Some.ensures.cases.same)
-    (begin-other c.args.t.now c.args.w.now _ (state_some _ (lent-own _ _ c.in-Some.ensures.cases.same _ c.is_state.ensures c.if-not-is_state.false)) _ _ _ _ _ (sym c.try_from.ensures ∙ c.in_err-o.was))
+    rw (err_is c.from_residual.result NoCall c.from_residual.ensures.1, c.in-Some.ensures.cases.1)
+    (begin-other c.args.t.now c.args.w.now _ (state_some _ (rw c.in-Some.ensures.cases.1 at c.in-Some.ensures.cases.0)) _ _ _ _ _ (sym c.try_from.ensures ∙ c.in_err-o.was))
 
 pub returns : goal.returns
 returns c =
-    let own : is_state c.args.w.now ≡ true = lent-own _ _ c.in-Some.ensures.cases.same _ c.is_state.ensures c.if-not-is_state.false in
-    rw c.answered.ensures (begin-stored c.args.t.now c.args.w.now own _ _ _ c.begun.ensures.1 _ _ c.args.j c.in_ok-o.o (sym c.try_from.ensures ∙ c.in_ok-o.was) (rw c.in-Some.ensures.cases.same at c.begun.ensures.0))
+    let own : is_state c.args.w.now ≡ true = rw c.in-Some.ensures.cases.1 at c.in-Some.ensures.cases.0 in
+    rw c.answered.ensures (begin-stored c.args.t.now c.args.w.now own _ c.begun.new.w.numbers.now _ (search rules) _ c.begun.new.w.coded _ _ c.args.j c.in_ok-o.o (sym c.try_from.ensures ∙ c.in_ok-o.was) (rw c.in-Some.ensures.cases.1 at c.begun.ensures.0))
