@@ -373,7 +373,7 @@ pub fn task_at(w: &[u32; 122], i: usize) -> Task
     task_by(row_at(w, i))
 }
 
-// What 122 numbers read as. Eight tasks are written out: a loop first fills the array with idle ones and copies it, and was slower.
+// What 122 numbers read as. Eight tasks are written out: a loop first fills the array with idle ones and copies it, and is slower.
 fn state_by(w: &[u32; 122]) -> State
     ensures { result ≡ state_by w.now }
 {

@@ -108,6 +108,9 @@ pub fn tiebeamer_reset(table: &mut [u32], state: &mut [u32]) -> u32
     number_asked(reset_asked(table, state))
 }
 
+// Begin, abandon, step and run stand beside those on a state by value: here only the numbers of the task that moves are read and
+// written, which is what makes them fast (F27 in docs/DECISIONS.md).
+
 // Task i begins an operation, or the first refusal that holds. The places 7 to 14 of an idle task are 0 already, so its
 // first seven numbers are enough.
 #[tactic(auto, unfolding(machine::specs::Contract::after, machine::specs::Calls::begin_of, machine::specs::Choice::if_b))]
