@@ -32,7 +32,7 @@ fn turn_formed(n: u32, o: Around, y: Rec, w: Rec) -> bool
     is_linked(n, o.y, y) & is_linked(n, o.w, w)
 }
 
-// The row of z and s, with the records of z and x; 17 where one of the three is not there.
+// The row of z and s, with the records of z and x; 17 where one of the three is not there. The hint makes it cheaper.
 #[inline(always)]
 fn choose_row(t: &Slots, k: Level) -> Result<Chosen, Turn>
     ensures { Choosing (seen t.now) t.now.n k.path k.z result }

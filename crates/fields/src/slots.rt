@@ -6,7 +6,7 @@ ghost use Rattle.machine.specs.Contract.{Sized};
 
 use terms::Rec;
 
-// Lent to be read.
+// Lent to be read. The slot count stands beside the numbers, so that no step divides.
 #[derive(Clone, Copy)]
 pub struct Slots<'a> {
     pub numbers: &'a [u32],

@@ -26,7 +26,8 @@ fn free_from(t: &Slots, from: u32) -> Option<u32>
     }
 }
 
-// The N lowest free slots, in the order in which new records take them, if there are so many.
+// The N lowest free slots, in the order in which new records take them, if there are so many. They are stored by index: of an
+// element that is borrowed a proof would know the length alone.
 pub fn free_slots<const N: usize>(t: &Slots) -> Option<[u32; N]>
     ensures { FreeSlots (seen t.now) t.now.n N result }
 {

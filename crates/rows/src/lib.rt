@@ -127,7 +127,8 @@ pub fn promote_writes(t: &mut SlotsMut, k: Level, z: Rec, i: u32)
     t.lead(k.path.grand, k.pz.left == k.path.parent, i);
 }
 
-// Rotate: x on top with rank rx, z below it with rank rz.
+// Rotate: x on top with rank rx, z below it with rank rz. That path and slots are in the table is asked (Inside, AllBelow): only the
+// table says it, so it is no invariant of the Rotation.
 pub fn rotate_writes(t: &mut SlotsMut, r: Rotation, rx: u32, rz: u32, slots: [u32; 2])
     requires { AllBelow t.old.n slots × Inside t.old.n r.path }
     ensures { Writes t.old t.new (rotate_writes r.path r.around r.z r.x rx rz (slice_index slots 0) (slice_index slots 1)) }

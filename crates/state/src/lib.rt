@@ -63,7 +63,8 @@ pub fn with_task(st: State, i: usize, k: Task) -> State
     next
 }
 
-// A task is stored, and m and u are so much more.
+// A task is stored, and m and u are so much more. Their bounds are asked in three contracts: a type of them would be made and taken
+// apart between is_sound and each use.
 pub fn with_counts(st: State, i: usize, k: Task, m: u32, u: u32) -> State
     requires { (i < 8) × (st.m ≤ 1000000) × (st.u ≤ 1000000) × (m ≤ 1) × (u ≤ 1) }
     ensures { result ≡ counted st i k m u }

@@ -469,7 +469,7 @@ pub fn walker_at(w: &[u32; 122], i: usize) -> Option<Walker>
     walker_by(row_at(w, i))
 }
 
-// The first seven numbers of task i are written.
+// The first seven numbers of task i are written; f is the number of its phase (docs/PROBE.md), since the state stays in its numbers.
 #[tactic(auto, unfolding(crate::specs::Walking::put_first))]
 pub fn put_first(w: &mut [u32; 122], i: usize, f: u32, j: Job, k: u32, q: Path)
     requires { i < 8 }

@@ -158,7 +158,7 @@ pub struct NoOperation {
     pub number: u32,
 }
 
-// What a step comes to for its task: 17 and no change, another phase, or the end.
+// What a step comes to for its task: 17 and no change, another phase, or the end. The definitions go by these three: no Result.
 #[derive(Clone, Copy)]
 pub enum Turn {
     Hurt,
@@ -180,7 +180,7 @@ pub struct Out {
     pub answer: Answer,
 }
 
-// The rows of the settling table that z and s decide.
+// The rows of the settling table that z and s decide; Outranked is one of them in the definition `parent_row`: no Option.
 #[derive(Clone, Copy)]
 pub enum ParentRow {
     Outranked,
@@ -188,7 +188,7 @@ pub enum ParentRow {
     Wider,
 }
 
-// The rows that x, y and w decide.
+// The rows that x, y and w decide; NoRow is one of them in the definition `level_row`: no Option.
 #[derive(Clone, Copy)]
 pub enum LevelRow {
     NoRow,
@@ -225,7 +225,7 @@ pub struct Report {
     pub figures: Figures,
 }
 
-// A record of a call file.
+// A record of a call file; a bad one is served and printed like the others (`CallFile.serve`): no Result.
 #[derive(Clone, Copy)]
 pub enum Call {
     Begin(Operation, u32, Job),

@@ -51,7 +51,7 @@ pub enum Arrival {
     Ends(Answer),
 }
 
-// A link was followed: where it leads, and what the walk comes to there.
+// A link was followed: where it leads (0 where Lost, as in the definition `left_to`), and what the walk comes to there.
 #[derive(Clone, Copy)]
 pub struct Gone {
     pub to: u32,
@@ -195,7 +195,7 @@ pub fn read_record(k: Task, formed: bool, good: bool, r: Rec) -> Turn
     }
 }
 
-// The reading of slot s, whose noted links must lead on to slot next.
+// The reading of slot s, whose noted links must lead on to slot next. The hints here and below make a reading cheaper.
 #[inline(always)]
 pub fn read_leading(t: &Slots, k: Task, s: u32, next: u32) -> Outcome
     ensures { result ≡ calmly (leading_read (seen t.now) t.now.n k s next) }

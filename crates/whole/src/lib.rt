@@ -17,7 +17,7 @@ use room::count_free;
 use state::{count_busy, count_settling, is_sound, or_refused};
 use terms::{Answer, Figures, Out, Refusal, Report, State};
 
-// Every slot that the entry does not reach is set to zero, or 17.
+// Every slot that the entry does not reach is set to zero, or 17. The hints in this file make the calls cheaper.
 #[tactic(auto, unfolding(machine::specs::Contract::after, machine::specs::Calls::tidy_reached))]
 #[inline]
 fn sweep(t: &mut SlotsMut, st: State) -> Result<Out, Refusal>

@@ -4,7 +4,7 @@
 ghost use Rattle.std.specs.Prelude.{◌≡◌, ◌+◌, ◌≤◌, ◌<◌, length};
 ghost use Rattle.machine.specs.CallFile.{two, four};
 
-// Two bytes, low byte first.
+// Two bytes, low byte first. The library has a function for each width, so there are two here.
 #[tactic(auto, unfolding(machine::specs::CallFile::two))]
 pub fn two_at(b: &[u8], i: usize) -> u32
     requires { (i + 2 ≤ length b.now) × (i < 1000000) }
