@@ -41,7 +41,7 @@ pub fn goal_number(g: Goal) -> u32
     }
 }
 
-// The 15 places of a task.
+// The 15 places of a task; the eight parameters are those of the definition `places`.
 fn places_of(f: u32, j: Job, k: u32, q: Path, a: Links, b: Links, c: Links, d: Links) -> [u32; 15]
     ensures { result ≡ places f j k q a b c d }
 {
