@@ -179,12 +179,7 @@ fn links_by(w: &[u32; 15], i: usize) -> Links
 pub fn goal_by(g: u32) -> Goal
     ensures { result ≡ goal_by g }
 {
-    match g {
-        1 => Goal::Serve(Operation::LookUp),
-        2 => Goal::Serve(Operation::PutIn),
-        3 => Goal::Serve(Operation::TakeOut),
-        _ => Goal::Settle,
-    }
+    Operation::try_from(g).map_or(Goal::Settle, Goal::Serve)
 }
 
 // As with the rows, each stage has a text of its own.

@@ -1,9 +1,8 @@
 -- The slot found is the next one; where there is none, there are not so many.
-use Rattle.std.proofs.Common.{◌≡◌, ◌+◌, refl, sym, ap, add-one, arith, ◌∙◌, take_all, length-set}
+use Rattle.std.proofs.Common.{◌+◌, refl, ap, add-one, arith, ◌∙◌, length-set}
 use Rattle.std.proofs.Math.Seq.{take-suc-set}
 use Rattle.fields.specs.Writes.{seen}
 use Rattle.machine.specs.Table.{free}
-use Rattle.room.specs.Found.{lowest}
 use Rattle.room.proofs.Slots.{too_few, below_more}
 use Rattle.room.proofs.free_slots.Goals as goal
 
@@ -22,10 +21,3 @@ loop-i-preserved g c =
       kept = rw (take-suc-set c.loop-i.slots c.loop-i.i c.in_ok-s.s (rw long c.loop-i-test.true), c.loop-i.invariant.kept, next) refl;
       below = rw (← next) (below_more _ _ _ c.loop-i.invariant.below found.2);
     }
-
-pub returns : goal.returns
-returns g c =
-    let e : c.loop-i.i ≡ g.row.N = omega (arith, c.loop-i-test.false) in
-    let all = take_all c.loop-i.i c.loop-i.slots (omega (arith, c.loop-i.invariant.long)) in
-    let slots = sym all ∙ c.loop-i.invariant.kept in
-    (slots ∙ ap (lowest (seen c.args.t.now) c.args.t.now.n) e, rw slots c.loop-i.invariant.below)
