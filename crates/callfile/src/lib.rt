@@ -115,7 +115,7 @@ fn call_of(b: &[u8]) -> Call
     by_operation(u32::from(b[0]), b)
 }
 
-// Operation 4: so many steps of task i, as long as they answer 0.
+// Operation 4: so many steps of task i, as long as they answer 0: the number is document 01's.
 fn run(t: &mut [u32], st: State, i: u32, count: u32) -> Out
     ensures { after t.new result ≡ run_of count t.old st i }
 {
@@ -132,7 +132,7 @@ fn run(t: &mut [u32], st: State, i: u32, count: u32) -> Out
     o
 }
 
-// The call is made. It is data, read from a file: a match, no closure.
+// The call is made. It is data, read from a file: a match, no closure; a bad one has its answer here, as in `CallFile.serve`.
 #[tactic(auto, unfolding(machine::specs::CallFile::serve, machine::specs::Contract::after))]
 fn serve_call(t: &mut [u32], st: State, c: Call) -> Out
     ensures { after t.new result ≡ serve t.old st c }

@@ -133,7 +133,7 @@ fn begun(t: &[u32], w: &mut StateMut, i: u32, o: Operation, j: Job) -> Result<An
     Ok(Answer::Accepted)
 }
 
-// The operation is 1 look up, 2 put in, 3 take out.
+// The operation is 1 look up, 2 put in, 3 take out: a number, as C hands it.
 fn begin_asked(t: &[u32], w: &mut [u32], i: u32, operation: u32, j: Job) -> Result<Answer, Unasked>
     ensures { told (number_asked result) 0 t.now w.new ≡ begin_told t.now w.old i operation j.number j.price }
 {

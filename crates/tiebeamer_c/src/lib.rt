@@ -12,7 +12,7 @@ pub extern "C" fn tiebeamer_reset(table: &mut [u32], state: &mut [u32]) -> u32
     tiebeamer::tiebeamer_reset(table, state)
 }
 
-// The operation is 1 look up, 2 put in, 3 take out.
+// The operation is 1 look up, 2 put in, 3 take out: a number, as C hands it.
 #[unsafe(no_mangle)]
 pub extern "C" fn tiebeamer_begin(
     table: &[u32],
