@@ -12,7 +12,8 @@ ghost use Rattle.choosing.specs.Chosen.{Choosing, Turned};
 use fields::{Slots, SlotsMut, in_tree, is_linked, well_formed};
 use rows::{Level, level_row, parent_row};
 use settling::{
-    Chosen, Turning, commit_four, commit_three, commit_two, double_by, promote_by, rotate_by,
+    Chosen, Turning, commit_four, commit_three, commit_two, commit_with_y, double_by, promote_by,
+    rotate_by,
 };
 use terms::{
     Around, Job, LevelRow, Links, Outcome, ParentRow, Path, Phase, Rec, SettleStage, Turn,
@@ -67,7 +68,8 @@ fn turn_row(t: &Slots, o: Around, x: Rec) -> Result<Turning, Turn>
     }
 }
 
-// pz and z noted: promote, or read x.
+// pz and z noted: promote, or read x. The hints here and below keep the stack of a step small: it needs one of the three alone.
+#[inline(never)]
 fn choose_step(t: &mut SlotsMut, k: Level) -> Result<Outcome, Turn>
     ensures { Does t.old t.new (or_calm result) (settle_step (read t.old) t.old.n k.job k.path (SettleChoose k.pz k.z)) }
 {
@@ -95,6 +97,7 @@ fn rotate_turn(t: &mut SlotsMut, k: Level, c: Links, e: Chosen) -> Result<Outcom
 }
 
 // x noted too: promote, or a rotation.
+#[inline(never)]
 fn rotate_step(t: &mut SlotsMut, k: Level, c: Links) -> Result<Outcome, Turn>
     ensures { Does t.old t.new (or_calm result) (settle_step (read t.old) t.old.n k.job k.path (SettleRotate k.pz k.z c)) }
 {
@@ -112,11 +115,12 @@ fn double_turn(t: &mut SlotsMut, k: Level, c: Links, d: Links, e: Chosen) -> Res
     ensures { Does t.old t.new (or_calm result) (double_first Wider (read t.old) t.old.n k.job k.path k.pz k.z c d e.z e.x) }
 {
     let g = turn_row(&t.read(), k.around(c), e.x)?;
-    commit_four(&t.read(), k, c, d, e)?;
+    commit_with_y(&t.read(), k, c, d, e, g.y)?;
     double_by(t, k.rotation(c, e.z, e.x), g, d)
 }
 
 // y noted too: promote, or a rotation.
+#[inline(never)]
 fn double_step(t: &mut SlotsMut, k: Level, c: Links, d: Links) -> Result<Outcome, Turn>
     ensures { Does t.old t.new (or_calm result) (settle_step (read t.old) t.old.n k.job k.path (SettleDouble k.pz k.z c d)) }
 {

@@ -7,7 +7,6 @@ use beginning::{abandon, begin};
 use playing::read_full;
 use resetting::reset;
 use statecode::{read_state, write_state};
-use std::alloc::Global;
 use std::io;
 use std::io::{BufReader, LineWriter, Read, Write};
 use stepping::step;
@@ -33,6 +32,13 @@ fn print_state<W: Write>(out: &mut W, st: State) -> io::Result<()> {
     print_numbers(out, "state", &w)
 }
 
+// How many numbers are lent to a list.
+#[derive(Clone, Copy)]
+struct Places {
+    count: usize,
+    ghost fits: { count ≤ 8192 },
+}
+
 // What a probe asks for.
 #[derive(Clone, Copy)]
 enum Query {
@@ -42,7 +48,7 @@ enum Query {
     Abandon(u32),
     Tidy,
     Figures,
-    List(usize),
+    List(Places),
 }
 
 // The query of the seven numbers before state and table, if the call is one and every number that it does not use is 0.
@@ -57,7 +63,9 @@ fn query_of(w: [u32; 7]) -> Option<Query> {
         [3, 0, i, 0, 0, 0, _] => Some(Query::Abandon(i)),
         [4, 0, 0, 0, 0, 0, _] => Some(Query::Tidy),
         [5, 0, 0, 0, 0, 0, _] => Some(Query::Figures),
-        [6, 0, 0, 0, 0, room, _] if room <= 8192 => Some(Query::List(room as usize)),
+        [6, 0, 0, 0, 0, room, _] if room <= 8192 => Some(Query::List(Places {
+            count: room as usize,
+        })),
         _ => None,
     }
 }
@@ -75,16 +83,34 @@ fn numbers<const N: usize>(b: &[u8]) -> [u32; N] {
     w
 }
 
-// A probe as it was read.
-#[derive(Drop)]
+// A probe as it was read; its table stands in the room that is lent.
+#[derive(Clone, Copy)]
 struct Probe {
     query: Query,
     state: State,
-    table: Vec<u32>,
+    length: usize,
+    ghost fits: { length ≤ 24600 },
+}
+
+// The numbers of the input that come next; whether it goes so far. A part has 1,024 numbers at most: `min` says it to the check.
+fn read_numbers<R: Read>(input: &mut R, t: &mut [u32]) -> io::Result<bool> {
+    let mut b = [0; 4096];
+    for part in t.chunks_mut(1024) {
+        let b = &mut b[..4 * part.len().min(1024)];
+        if read_full(input, b)? < b.len() {
+            return Ok(false);
+        }
+        fill_numbers(part, b);
+    }
+    Ok(true)
 }
 
 // The probe that begins with these seven numbers, if the input goes on as one.
-fn read_probe<R: Read>(alloc: Global, input: &mut R, w: [u32; 7]) -> io::Result<Option<Probe>> {
+fn read_probe<R: Read>(
+    input: &mut R,
+    w: [u32; 7],
+    table: &mut [u32; 24600],
+) -> io::Result<Option<Probe>> {
     let Some(query) = query_of(w) else {
         return Ok(None);
     };
@@ -99,16 +125,13 @@ fn read_probe<R: Read>(alloc: Global, input: &mut R, w: [u32; 7]) -> io::Result<
         return Ok(None);
     };
     let length = w[6] as usize;
-    let mut bytes = vec![in alloc; 0; 4 * length]?;
-    if read_full(input, &mut bytes)? < 4 * length {
+    if !read_numbers(input, &mut table[..length])? {
         return Ok(None);
     }
-    let mut table = vec![in alloc; 0; length]?;
-    fill_numbers(&mut table, &bytes);
     Ok(Some(Probe {
         query,
         state,
-        table,
+        length,
     }))
 }
 
@@ -124,27 +147,21 @@ fn make_figures<W: Write>(out: &mut W, t: &[u32], st: State) -> io::Result<State
     Ok(st)
 }
 
-// A list in a room of so many sevens.
-fn make_list<W: Write>(
-    alloc: Global,
-    out: &mut W,
-    t: &[u32],
-    st: State,
-    room: usize,
-) -> io::Result<State> {
-    let mut room = vec![in alloc; 7; room]?;
-    print_answer(out, list(t, st, &mut room))?;
-    print_numbers(out, "room", &room)?;
+// A list in a room of sevens.
+fn make_list<W: Write>(out: &mut W, t: &[u32], st: State, room: &mut [u32]) -> io::Result<State> {
+    room.fill(7);
+    print_answer(out, list(t, st, room))?;
+    print_numbers(out, "room", room)?;
     Ok(st)
 }
 
-// The call is made, its answer printed; the state after it.
+// The call is made, its answer printed; the state after it. A list is written into `fares`.
 fn make<W: Write>(
-    alloc: Global,
     out: &mut W,
     t: &mut [u32],
     st: State,
     q: Query,
+    fares: &mut [u32; 8192],
 ) -> io::Result<State> {
     match q {
         Query::Reset => print_out(out, reset(t, st)),
@@ -153,19 +170,30 @@ fn make<W: Write>(
         Query::Abandon(i) => print_out(out, abandon(t, st, i)),
         Query::Tidy => print_out(out, tidy(t, st)),
         Query::Figures => make_figures(out, t, st),
-        Query::List(room) => make_list(alloc, out, t, st, room),
+        Query::List(places) => make_list(out, t, st, &mut fares[..places.count]),
     }
 }
 
 // The call is made, everything printed.
-fn answer<W: Write>(alloc: Global, out: &mut W, mut p: Probe) -> io::Result<()> {
-    let after = make(alloc, out, &mut p.table, p.state, p.query)?;
+fn answer<W: Write>(
+    out: &mut W,
+    p: Probe,
+    table: &mut [u32; 24600],
+    fares: &mut [u32; 8192],
+) -> io::Result<()> {
+    let t = &mut table[..p.length];
+    let after = make(out, t, p.state, p.query, fares)?;
     print_state(out, after)?;
-    print_numbers(out, "table", &p.table)
+    print_numbers(out, "table", t)
 }
 
 // One probe is read and answered; whether another may follow.
-fn turn<R: Read, W: Write>(alloc: Global, input: &mut R, out: &mut W) -> io::Result<bool> {
+fn turn<R: Read, W: Write>(
+    input: &mut R,
+    out: &mut W,
+    table: &mut [u32; 24600],
+    fares: &mut [u32; 8192],
+) -> io::Result<bool> {
     let mut b = [0; 28];
     let n = read_full(input, &mut b)?;
     if n == 0 {
@@ -174,22 +202,25 @@ fn turn<R: Read, W: Write>(alloc: Global, input: &mut R, out: &mut W) -> io::Res
     let probe = if n < 28 {
         None
     } else {
-        read_probe(alloc, input, numbers(&b))?
+        read_probe(input, numbers(&b), table)?
     };
     let Some(p) = probe else {
         out.write_all(b"answer 40 0\n")?;
         return Ok(false);
     };
-    answer(alloc, out, p)?;
+    answer(out, p, table, fares)?;
     Ok(true)
 }
 
-// The loop counts its turns: a proved loop has to end.
+// Room for the longest table and the longest list stands on the stack, so that no probe can be short of heap. The loop counts its
+// turns: a proved loop has to end.
 fn main(rt: HostRuntime) -> io::Result<()> {
     let mut input = BufReader::new(rt.alloc(), rt.stdin())?;
     let mut out = LineWriter::new(rt.alloc(), rt.stdout())?;
+    let mut table = [0; 24600];
+    let mut fares = [0; 8192];
     for _ in 0..u64::MAX {
-        if !turn(rt.alloc(), &mut input, &mut out)? {
+        if !turn(&mut input, &mut out, &mut table, &mut fares)? {
             break;
         }
     }

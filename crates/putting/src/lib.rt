@@ -98,7 +98,8 @@ fn put_writes(t: &mut SlotsMut, j: Job, q: Path, left: bool, h: Rec, slots: [u32
     t.lead(q.parent, left, x);
 }
 
-// The commit of a put-in: the limit and room are looked at after the test.
+// The commit of a put-in: the limit and room are looked at after the test. The hint keeps the stack of every other step small.
+#[inline(never)]
 fn put_commit(
     t: &mut SlotsMut,
     m: u32,

@@ -102,9 +102,18 @@ pub fn commit_four(t: &Slots, k: Level, c: Links, d: Links, e: Chosen) -> Result
         commit_four (seen t.now) t.now.n k.job k.path k.pz k.z c d (around_of k.path k.pz k.z c).y e.z e.x f ≡ or_stopped f result }
     ensures pz_stands { IfOk result (λ u. k.path.grand < t.now.n) }
 {
+    commit_with_y(t, k, c, d, e, t.at(k.around(c).y))
+}
+
+// The same where the step has y's record already: no record is read twice.
+pub fn commit_with_y(t: &Slots, k: Level, c: Links, d: Links, e: Chosen, y: Rec) -> Result<(), Turn>
+    requires { y ≡ seen t.now (around_of k.path k.pz k.z c).y }
+    ensures commits { (f : Did) →
+        commit_four (seen t.now) t.now.n k.job k.path k.pz k.z c d (around_of k.path k.pz k.z c).y e.z e.x f ≡ or_stopped f result }
+    ensures pz_stands { IfOk result (λ u. k.path.grand < t.now.n) }
+{
     let i = k.around(c).y;
     let pz = t.at(k.path.grand);
-    let y = t.at(i);
     let task = k.at(SettleStage::SettleDouble(k.pz, k.z, c, d));
     may_change(
         task,
@@ -165,7 +174,8 @@ fn double_do(t: &mut SlotsMut, r: Rotation, y: Rec, d: Links) -> Result<Outcome,
     Ok(settled_on(r.job))
 }
 
-// The change by its row.
+// The change by its row. The hints here and below keep the stack of the step that changes nothing small.
+#[inline(never)]
 pub fn promote_by(t: &mut SlotsMut, k: Level, e: Chosen) -> Result<Outcome, Turn>
     requires { (k.path.parent < t.old.n) × (k.path.grand < t.old.n) }
     ensures { Does t.old t.new (or_calm result) (promote_by e.row (read t.old) t.old.n k.job k.path k.pz k.z e.z) }
@@ -176,6 +186,7 @@ pub fn promote_by(t: &mut SlotsMut, k: Level, e: Chosen) -> Result<Outcome, Turn
     }
 }
 
+#[inline(never)]
 pub fn rotate_by(t: &mut SlotsMut, row: LevelRow, r: Rotation) -> Result<Outcome, Turn>
     requires { Inside t.old.n r.path }
     ensures { Does t.old t.new (or_calm result) (rotate_by row (read t.old) t.old.n r.job r.path r.around r.z r.x) }
@@ -187,6 +198,7 @@ pub fn rotate_by(t: &mut SlotsMut, row: LevelRow, r: Rotation) -> Result<Outcome
     }
 }
 
+#[inline(never)]
 pub fn double_by(t: &mut SlotsMut, r: Rotation, g: Turning, d: Links) -> Result<Outcome, Turn>
     requires { (g.row ≡ DoubleRotation → g.y.rank < 4294967295) × Inside t.old.n r.path × (r.around.y < t.old.n) }
     ensures { Does t.old t.new (or_calm result) (double_by g.row (read t.old) t.old.n r.job r.path r.around d r.z r.x g.y) }

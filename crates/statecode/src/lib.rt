@@ -6,7 +6,7 @@ ghost use Rattle.std.specs.Prelude.{MatchOption};
 ghost use Rattle.std.specs.Borrow.{sem, LendsIf, Array, u32};
 ghost use Rattle.std.specs.List.{list_all};
 ghost use Rattle.std.proofs.Math.Seq.{paste};
-ghost use Rattle.terms.specs.Task.{work_settles};
+ghost use Rattle.terms.specs.Task.{is_busy, work_settles};
 ghost use Rattle.machine.specs.State.{settling, sound, task_at};
 ghost use Rattle.statecode.specs.Walking.{walker_of, put_first};
 ghost use Rattle.statecode.specs.Own.{clear_from, own_goal, own_noted, own_by, own_row, storing};
@@ -366,6 +366,15 @@ pub fn task_at(w: &[u32; 122], i: usize) -> Task
     ensures { result ≡ task_at (state_by w.now) i }
 {
     task_by(row_at(w, i))
+}
+
+// Whether task i of a state is busy. Its phase alone says so, and the rest of it is not read.
+#[tactic(auto, using(crate::proofs::Own::task_part), unfolding(crate::specs::Code::task_by, machine::specs::Choice::if_b))]
+pub fn is_busy_at(w: &[u32; 122], i: usize) -> bool
+    requires { i < 8 }
+    ensures { result ≡ is_busy (task_at (state_by w.now) i).work }
+{
+    row_at(w, i)[0] != 0
 }
 
 // What 122 numbers read as. Eight tasks are written out: a loop first fills the array with idle ones and copies it, and is slower.

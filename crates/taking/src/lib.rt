@@ -71,7 +71,8 @@ fn take_writes(t: &mut SlotsMut, q: Path, left: bool, s: Rec, sibling: u32, x: u
     t.lead(q.grand, left, x);
 }
 
-// The commit of a take-out.
+// The commit of a take-out. The hint keeps the stack of every other step small.
+#[inline(never)]
 fn take_commit(t: &mut SlotsMut, j: Job, q: Path, noted: Family<Links>) -> Result<Outcome, Turn>
     ensures { Does t.old t.new (or_calm result)
         (take_commit (read t.old) t.old.n j q noted.grand noted.parent noted.left noted.right) }

@@ -3,7 +3,7 @@
 // exports the calls under C's names, with the same clauses.
 #![tactic(auto)]
 
-ghost use Rattle.std.specs.Prelude.{◌≡◌, true, false, ◌≤◌, ◌<◌, ℕ, get_or, Ok};
+ghost use Rattle.std.specs.Prelude.{◌≡◌, true, false, ◌≤◌, ◌<◌, ℕ, get_or, Ok, Err, IfOk, IfErr};
 ghost use Rattle.fields.specs.Writes.{seen, SameTable};
 ghost use Rattle.machine.specs.Contract.{turned_out};
 ghost use Rattle.machine.specs.Step.{unsettled, step_work, step_of};
@@ -12,6 +12,8 @@ ghost use Rattle.machine.specs.Calls.{begin_of, abandon_of};
 ghost use Rattle.machine.specs.CallFile.{end_line, run_of};
 ghost use Rattle.statecode.specs.Lent.{lent};
 ghost use Rattle.tiebeamer.specs.declared.Unasked.TheVariants as Unasked;
+ghost use Rattle.tiebeamer.specs.declared.Unasked.TheVariants.{NoCall};
+ghost use Rattle.terms.specs.Operations.{operation_at};
 ghost use Rattle.walk.specs.Arrived.{turn_at};
 ghost use Rattle.machine.specs.State.{one, task_at};
 ghost use Rattle.tiebeamer.specs.Numbers.{answered, left_by, Hands, Leaves, Walks};
@@ -22,8 +24,8 @@ use fields::{Slots, SlotsMut, fitting_slots};
 use resetting::reset;
 use state::{ask_fits, job_fits, task_place};
 use statecode::{
-    StateMut, Walker, goal_number, is_sound_by, put_first, read_state, state_in, store_task,
-    task_at, walker_at, write_state,
+    StateMut, Walker, goal_number, is_busy_at, is_sound_by, put_first, read_state, state_in,
+    store_task, task_at, walker_at, write_state,
 };
 use stepping::phase_step;
 use terms::{
@@ -122,7 +124,7 @@ fn begun(t: &[u32], w: &mut StateMut, i: u32, o: Operation, j: Job) -> Result<An
     if !ask_fits(o, j) {
         return Err(Refusal::OutOfRange);
     }
-    if task_at(w.numbers, at).is_busy() {
+    if is_busy_at(w.numbers, at) {
         return Err(Refusal::TaskBusy);
     }
     if !is_sound_by(w.numbers) {
@@ -133,14 +135,22 @@ fn begun(t: &[u32], w: &mut StateMut, i: u32, o: Operation, j: Job) -> Result<An
     Ok(Answer::Accepted)
 }
 
-// The operation is 1 look up, 2 put in, 3 take out: a number, as C hands it.
+// The operation that a number names, as C hands it: 1 look up, 2 put in, 3 take out.
+#[tactic(auto, unfolding(terms::specs::Operations::operation_at))]
+fn operation_asked(n: u32) -> Result<Operation, Unasked>
+    ensures named { IfOk result (λ o. operation_at n ≡ Ok o) }
+    ensures refused { IfErr result (λ e. (operation_at n ≡ Err (record { number = n })) × (e ≡ NoCall)) }
+{
+    Ok(Operation::try_from(n)?)
+}
+
 fn begin_asked(t: &[u32], w: &mut [u32], i: u32, operation: u32, j: Job) -> Result<Answer, Unasked>
     ensures { told (number_asked result) 0 t.now w.new ≡ begin_told t.now w.old i operation j.number j.price }
 {
     let Some(numbers) = state_in(w) else {
         return Err(Unasked::NoState);
     };
-    let o = Operation::try_from(operation)?;
+    let o = operation_asked(operation)?;
     Ok(answered(begun(t, &mut StateMut { numbers }, i, o, j)))
 }
 

@@ -17,4 +17,4 @@ pub returns : goal.returns
 unfolding allowed_rank fibonacci
 returns c =
     c.saturating_sub.ensures
-    ∙ ap (λ (x : ℕ). x - 1) (c.count_at_most-fit.ensures.value ∙ at-most-begins (drop 2 fibonacci) (2 * c.args.m))
+    ∙ ap (λ (x : ℕ). x - 1) (rw c.fibonacci.ensures.table at c.count_at_most-fit.ensures.value ∙ at-most-begins (drop 2 fibonacci) (2 * c.args.m))

@@ -4,7 +4,7 @@ use Rattle.std.proofs.lemmas.Grind.{common_steps}
 use Rattle.std.proofs.lemmas.Result.{IfOk-weaker}
 use Rattle.machine.specs.Settling.{grounds_four, grounds_three, grounds_two}
 use Rattle.machine.proofs.Tests.{formed-in}
-use Rattle.settling.proofs.commit_four.Goals as goal
+use Rattle.settling.proofs.commit_with_y.Goals as goal
 
 pub returns-clause-pz_stands : goal.returns-clause-pz_stands
 unfolding grounds_four grounds_three grounds_two
